@@ -1,0 +1,4 @@
+pub mod Accepted
+pub mod Rates
+pub mod Growth
+pub mod Params

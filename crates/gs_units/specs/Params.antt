@@ -1,0 +1,19 @@
+use Rattle.std.specs.Prelude.{◌≢◌, ◌*◌, ◌^◌, ◌<◌, ◌≤◌, All, map}
+use Rattle.std.specs.List.Sorted.{IsStrictlyIncreasing}
+use Rattle.gs_units.specs.declared.params.Link.{Link}
+use Rattle.gs_units.specs.declared.params.NodeParams.{NodeParams}
+
+-- the numbers that a link may have: the margin keeps the two triggers apart
+pub record IsSound (link : Link) : Type 0 where
+  pub margin : 2 * link.delta < link.kappa
+  pub kappa : link.kappa < 2 ^ 62
+  pub comp : link.comp < 2 ^ 47
+  pub jump : link.jump < 2 ^ 47
+
+-- the parameters that a node may run with
+pub record AreValid (p : NodeParams) : Type 0 where
+  pub ascending : IsStrictlyIncreasing (map (λ link. link.node) p.links)
+  pub others : All (λ link. link.node ≢ p.node) p.links
+  pub sound : All IsSound p.links
+  pub iota : p.iota < 2 ^ 47
+  pub every : 1 ≤ p.every

@@ -1,0 +1,43 @@
+use Rattle.std.specs.Prelude.{◌≡◌, ℕ, ◌+◌, ◌-◌, ◌*◌, ◌/◌}
+use Rattle.gs_units.specs.declared.rate.Rate.{Rate}
+use Rattle.gs_units.specs.declared.rate.Mode.{Mode}
+use Rattle.gs_units.specs.declared.rate.Mode.TheVariants.{Slow, Fast}
+
+-- a rate is of these numbers
+pub record HasNumbers (low high boost : ℕ) (rate : Rate) : Type 0 where
+  pub lo : rate.lo ≡ low
+  pub hi : rate.hi ≡ high
+  pub mu : rate.mu ≡ boost
+
+-- what the fast mode adds while the hardware clock grows by h
+abbrev pub boost_of : Rate → ℕ → ℕ
+boost_of rate h = h * rate.mu / 1000000
+
+-- what any clock has grown by at least while this hardware clock grew by h
+abbrev pub creep_of : Rate → ℕ → ℕ
+creep_of rate h = h * rate.lo / rate.hi
+
+-- what a logical clock grows by while its hardware clock grows by h
+abbrev pub steer_of : Rate → Mode → ℕ → ℕ
+steer_of rate Slow h = h
+steer_of rate Fast h = h + boost_of rate h
+
+-- r: how far two hardware clocks may drift apart in one quantum
+abbrev pub gap_of : Rate → ℕ
+gap_of rate = rate.hi - rate.lo
+
+-- the least boost of one quantum
+abbrev pub q_of : Rate → ℕ
+q_of rate = boost_of rate rate.lo
+
+-- the least creep of one quantum
+abbrev pub g_of : Rate → ℕ
+g_of rate = creep_of rate rate.lo
+
+-- the greatest that one quantum adds to a logical clock
+abbrev pub top_of : Rate → ℕ
+top_of rate = rate.hi + boost_of rate rate.hi + 1
+
+-- how often the drift of one quantum goes into the boost
+abbrev pub sigma_of : Rate → ℕ
+sigma_of rate = q_of rate / gap_of rate
