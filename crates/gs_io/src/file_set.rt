@@ -1,0 +1,188 @@
+ghost use Rattle.std.specs.Prelude.{◌≡◌, ℕ, ◌<◌, ◌≤◌, List, [], ◌∷◌, ◌++◌, length, map, Option, Some, None, IfSome, IsNone, IsSomeAnd, IfOk, OnOk, OnErr, string_bytes};
+ghost use Rattle.std.specs.List.{count_by};
+ghost use Rattle.std.specs.Str.{bytes_eq};
+ghost use Rattle.gs_io.specs.Causes.{Rose};
+ghost use Rattle.gs_io.specs.Held.{Shelf, first_named};
+
+use std::alloc::{AllocError, Global};
+use std::fs;
+use std::io::{self, ErrorKind, Read};
+use std::marker::Model;
+use std::rt::Files as Disk;
+use thiserror::Error;
+
+/// Why a file was not read.
+#[derive(Clone, Copy, Debug, PartialEq, Eq, Error)]
+pub enum FileStop {
+    /// The outside failed: there is no such file, or it cannot be read.
+    #[error("the file cannot be read")]
+    Failed,
+    /// The file has more bytes than the caller takes.
+    #[error("the file is too long")]
+    TooLong,
+    #[error("out of memory")]
+    OutOfMemory,
+}
+
+/// Where files are read by name.
+pub trait Files {
+    /// The bytes of each name, where it tells them; in it `None` is a name without a file.
+    ghost content: { Self → Option (List ℕ → Option (List ℕ)) };
+
+    /// How often the reading of each name has failed.
+    ghost faults: { Self → List ℕ → ℕ };
+
+    /// The bytes of the file, of which there are at most `most`.
+    fn read(&mut self, alloc: Global, name: &str, most: u64) -> Result<Vec<u8>, FileStop>
+        ensures bytes { IfOk result (λ bytes. IfSome (content self.old) (λ told. told name.now ≡ Some bytes.items)) }
+        ensures at_most { IfOk result (λ bytes. length bytes.items ≤ most) }
+        ensures too_long { result ≡ Err FileStop.TooLong → IfSome (content self.old) (λ told. IsSomeAnd (told name.now) (λ bytes. most < length bytes)) }
+        ensures failed { result ≡ Err FileStop.Failed → Rose (faults self.old name.now) (faults self.new name.now) }
+        ensures later { (other : List ℕ) → faults self.old other ≤ faults self.new other }
+        ensures same { content self.new ≡ content self.old };
+}
+
+/// Files in memory. Of a name that is given twice the first counts. The reads whose numbers it was
+/// given, from 1, fail, and so does the reading of a name without a file; a failed read raises the
+/// count of its own name alone.
+#[derive(Drop)]
+pub struct MemFiles {
+    files: Vec<(String, Vec<u8>)>,
+    fails: Vec<u64>,
+    calls: u64,
+    failed: Vec<String>,
+}
+
+impl Model for MemFiles {
+    ghost Value = { Shelf };
+
+    ghost view = { λ shelf. record {
+      files = map (λ file. (string_bytes file.0, file.1.items)) shelf.files.items;
+      failed = map string_bytes shelf.failed.items;
+    } };
+}
+
+impl MemFiles {
+    /// Files by name. `fails` are the numbers of the reads that are to fail.
+    pub fn new(alloc: Global, files: Vec<(String, Vec<u8>)>, fails: Vec<u64>) -> Self
+        ensures files { result.files ≡ map (λ file. (string_bytes file.0, file.1.items)) files.items }
+        ensures unfailed { result.failed ≡ [] }
+    {
+        MemFiles {
+            files,
+            fails,
+            calls: 0,
+            failed: Vec::new(alloc),
+        }
+    }
+
+    // The file of this name, unless this call is to fail.
+    fn found(&self, name: &str) -> Option<&[u8]>
+        ensures { IfSome result (λ bytes. first_named self.now.files name.now ≡ Some bytes.now) }
+    {
+        if self.fails.contains(&self.calls) {
+            return None;
+        }
+        first_of(&self.files, name)
+    }
+}
+
+impl Files for MemFiles {
+    ghost content = { λ shelf. Some (first_named shelf.files) };
+
+    ghost faults = { λ shelf name. count_by (bytes_eq name) shelf.failed };
+
+    fn read(&mut self, alloc: Global, name: &str, most: u64) -> Result<Vec<u8>, FileStop> {
+        self.calls = self.calls.saturating_add(1);
+        match self.found(name) {
+            Some(bytes) => copy_of(alloc, bytes, most),
+            None => Err(failure(alloc, &mut self.failed, name)),
+        }
+    }
+}
+
+fn first_of<'a>(files: &'a [(String, Vec<u8>)], name: &str) -> Option<&'a [u8]>
+    ensures first { IfSome result (λ bytes. first_named (map (λ file. (string_bytes file.0, file.1.items)) files.now) name.now ≡ Some bytes.now) }
+    ensures no_file { IsNone result → first_named (map (λ file. (string_bytes file.0, file.1.items)) files.now) name.now ≡ None }
+{
+    for (held, bytes) in files {
+        if held.as_str() == name {
+            return Some(bytes);
+        }
+    }
+    None
+}
+
+fn copy_of(alloc: Global, bytes: &[u8], most: u64) -> Result<Vec<u8>, FileStop>
+    ensures bytes { IfOk result (λ copy. copy.items ≡ bytes.now) }
+    ensures at_most { OnOk result (length bytes.now ≤ most) }
+    ensures too_long { result ≡ Err FileStop.TooLong → most < length bytes.now }
+    ensures unfailed { (result ≡ Err FileStop.Failed) → ⊥ }
+{
+    if bytes.len() as u64 > most {
+        return Err(FileStop::TooLong);
+    }
+    Vec::from_slice(alloc, bytes).map_err(|_| FileStop::OutOfMemory)
+}
+
+// Records that the reading of this name failed.
+fn failure(alloc: Global, failed: &mut Vec<String>, name: &str) -> FileStop
+    ensures recorded { result ≡ FileStop.Failed → map string_bytes failed.new.items ≡ map string_bytes failed.old.items ++ name.now ∷ [] }
+    ensures same { result ≡ FileStop.OutOfMemory → failed.new.items ≡ failed.old.items }
+    ensures never_long { (result ≡ FileStop.TooLong) → ⊥ }
+{
+    match record(alloc, failed, name) {
+        Ok(()) => FileStop::Failed,
+        Err(AllocError) => FileStop::OutOfMemory,
+    }
+}
+
+fn record(alloc: Global, failed: &mut Vec<String>, name: &str) -> Result<(), AllocError>
+    ensures ok { OnOk result (map string_bytes failed.new.items ≡ map string_bytes failed.old.items ++ name.now ∷ []) }
+    ensures err { OnErr result (failed.new.items ≡ failed.old.items) }
+{
+    let name = String::from_str(alloc, name)?;
+    failed.push(name)?;
+    Ok(())
+}
+
+/// The files of the machine, which tell nothing. One count stands for every name.
+#[derive(Drop)]
+pub struct OsFiles<R> {
+    disk: R,
+    faults: u64,
+}
+
+impl<R: Disk> OsFiles<R> {
+    /// Files that this runtime opens.
+    pub fn new(disk: R) -> Self {
+        OsFiles { disk, faults: 0 }
+    }
+}
+
+impl<R: Disk> Files for OsFiles<R> {
+    ghost content = { λ files. None };
+
+    ghost faults = { λ files name. files.faults };
+
+    /// Of a file that is too long one byte more than `most` is read.
+    fn read(&mut self, alloc: Global, name: &str, most: u64) -> Result<Vec<u8>, FileStop> {
+        match read_front(&self.disk, alloc, name, most.saturating_add(1)) {
+            Ok(bytes) if bytes.len() as u64 > most => Err(FileStop::TooLong),
+            Ok(bytes) => Ok(bytes),
+            Err(stop) if stop.kind() == ErrorKind::OutOfMemory => Err(FileStop::OutOfMemory),
+            Err(_) => {
+                self.faults = self.faults.saturating_add(1);
+                Err(FileStop::Failed)
+            }
+        }
+    }
+}
+
+// The first bytes of a file, at most so many.
+fn read_front<R: Disk>(disk: &R, alloc: Global, name: &str, most: u64) -> io::Result<Vec<u8>> {
+    let file = fs::open(disk, name)?;
+    let mut bytes = Vec::new(alloc);
+    file.take(most).read_to_end(&mut bytes)?;
+    Ok(bytes)
+}

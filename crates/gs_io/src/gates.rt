@@ -1,0 +1,38 @@
+use std::thread;
+use std::time::{Clock, Duration};
+
+/// What the threads of a run pass, so that a test can hold them there. It has no effect on anything
+/// that a contract speaks of.
+pub trait Gate: Sync {
+    /// A worker begins with a piece.
+    fn enter(&self, piece: u32);
+
+    /// A worker is done with a piece.
+    fn leave(&self, piece: u32);
+
+    /// A timer has nothing to do for so many units.
+    fn rest(&self, units: u64);
+}
+
+/// The gate of a real run: nobody is held, and a rest is so many nanoseconds of sleep.
+#[derive(Drop)]
+pub struct PlainGate<R> {
+    clock: R,
+}
+
+impl<R: Clock> PlainGate<R> {
+    /// A gate that sleeps by this clock.
+    pub fn new(clock: R) -> Self {
+        PlainGate { clock }
+    }
+}
+
+impl<R: Clock + Sync> Gate for PlainGate<R> {
+    fn enter(&self, _piece: u32) {}
+
+    fn leave(&self, _piece: u32) {}
+
+    fn rest(&self, units: u64) {
+        thread::sleep(&self.clock, Duration::from_nanos(units))
+    }
+}

@@ -1,0 +1,138 @@
+ghost use Rattle.std.specs.Prelude.{◌≡◌, ℕ, ◌<◌, List, [], ◌++◌, length, Option, Some, None, OnOk, OnErr};
+ghost use Rattle.gs_io.specs.Causes.{HasCause};
+ghost use Rattle.gs_io.specs.Held.{Appends, AppendsFront, Written};
+
+use crate::Failed;
+use std::alloc::Global;
+use std::io::{Stderr, Stdout, Write};
+use std::marker::Model;
+
+/// Where bytes go.
+pub trait Sink {
+    /// The bytes that it holds, where it tells them.
+    ghost bytes: { Self → Option (List ℕ) };
+
+    /// How often it has failed.
+    ghost faults: { Self → ℕ };
+
+    /// Appends the piece. After `Failed` the sink holds what it held and a front of the piece.
+    fn write(&mut self, piece: &[u8]) -> Result<(), Failed>
+        ensures ok { OnOk result (Appends (bytes self.old) (bytes self.new) piece.now) }
+        ensures err { OnErr result (AppendsFront (bytes self.old) (bytes self.new) piece.now) }
+        ensures cause { HasCause (faults self.old) (faults self.new) result };
+}
+
+/// Writes a text with one write a line. Each piece ends with its line feed; a last piece without
+/// one is written too.
+pub fn write_lines<K: Sink>(out: &mut K, text: &[u8]) -> Result<(), Failed>
+    ensures ok { OnOk result (Appends (K.bytes out.old) (K.bytes out.new) text.now) }
+    ensures err { OnErr result (AppendsFront (K.bytes out.old) (K.bytes out.new) text.now) }
+    ensures cause { HasCause (K.faults out.old) (K.faults out.new) result }
+{
+    let mut rest = text;
+    while !rest.is_empty() {
+        let (line, after) = split_line(rest);
+        out.write(line)?;
+        rest = after;
+    }
+    Ok(())
+}
+
+// The first line with its line feed, and what comes after it.
+fn split_line(text: &[u8]) -> (&[u8], &[u8])
+    requires { 0 < length text.now }
+    ensures whole { text.now ≡ result.0.now ++ result.1.now }
+    ensures some { 0 < length result.0.now }
+{
+    let end = text.iter().position(|c| *c == b'\n');
+    text.split_at(end.map_or(text.len(), |feed| feed + 1))
+}
+
+/// A sink in memory. The calls whose numbers it was given, from 1, fail and keep nothing of their
+/// piece. Want of memory is a fault like any other.
+#[derive(Drop)]
+pub struct MemSink {
+    held: Vec<u8>,
+    fails: Vec<u64>,
+    calls: u64,
+    faults: u64,
+}
+
+impl Model for MemSink {
+    ghost Value = { Written };
+
+    ghost view = { λ sink. record { bytes = sink.held.items; faults = sink.faults } };
+}
+
+impl MemSink {
+    /// A sink that holds nothing. `fails` are the numbers of the writes that are to fail.
+    pub fn new(alloc: Global, fails: Vec<u64>) -> Self
+        ensures empty { result.bytes ≡ [] }
+        ensures unfailed { result.faults ≡ 0 }
+    {
+        MemSink {
+            held: Vec::new(alloc),
+            fails,
+            calls: 0,
+            faults: 0,
+        }
+    }
+
+    /// What was written.
+    pub fn bytes(&self) -> &[u8]
+        ensures { result.now ≡ self.now.bytes }
+    {
+        &self.held
+    }
+}
+
+impl Sink for MemSink {
+    ghost bytes = { λ sink. Some sink.bytes };
+
+    ghost faults = { λ sink. sink.faults };
+
+    fn write(&mut self, piece: &[u8]) -> Result<(), Failed> {
+        self.calls = self.calls.saturating_add(1);
+        if self.fails.contains(&self.calls) || self.held.extend_from_slice(piece).is_err() {
+            self.faults = self.faults.saturating_add(1);
+            return Err(Failed);
+        }
+        Ok(())
+    }
+}
+
+/// A real stream, which tells nothing of what it holds.
+#[derive(Drop)]
+pub struct StdSink<W> {
+    stream: W,
+    faults: u64,
+}
+
+impl StdSink<Stdout> {
+    /// The standard output of the process.
+    pub fn output(stream: Stdout) -> Self {
+        StdSink { stream, faults: 0 }
+    }
+}
+
+impl StdSink<Stderr> {
+    /// The standard error of the process.
+    pub fn error(stream: Stderr) -> Self {
+        StdSink { stream, faults: 0 }
+    }
+}
+
+impl<W: Write> Sink for StdSink<W> {
+    ghost bytes = { λ sink. None };
+
+    ghost faults = { λ sink. sink.faults };
+
+    /// The piece is out, and not only in a buffer, where this is Ok.
+    fn write(&mut self, piece: &[u8]) -> Result<(), Failed> {
+        if self.stream.write_all(piece).is_err() || self.stream.flush().is_err() {
+            self.faults = self.faults.saturating_add(1);
+            return Err(Failed);
+        }
+        Ok(())
+    }
+}
