@@ -2,7 +2,7 @@ use Rattle.std.proofs.Common.{◌≡◌, ℕ, ◌+◌, ◌*◌, ◌/◌, ◌<◌
 use Rattle.std.proofs.Math.Nat.{div-add-mod', mod-lt, mul-le-mul_right, add-mul, le-div_iff_mul-le, div-lt_iff_lt-mul, div-le_of_le-mul}
 use Rattle.std.proofs.lemmas.List.Elements.{All-head, All-tail}
 use Rattle.std.proofs.lemmas.List.Sums.{sum_by-cons}
-use Rattle.gs_units.specs.Growth.{IsIncrement, GrowsBy, GrowsInEachQuantum, CreepsAtMostByLo}
+use Rattle.gs_units.specs.Growth.{IsIncrement, GrowsInEachQuantum, CreepsAtMostByLo}
 use Rattle.gs_units.specs.declared.rate.Rate.{Rate}
 
 -- quotients of a sum

@@ -5,5 +5,4 @@ ghost use Rattle.gs_units.specs.Growth.{GrowsInEachQuantum, CreepsAtMostByLo};
 pub fn growth()
     ensures quantum { GrowsInEachQuantum }
     ensures sum { CreepsAtMostByLo }
-{
-}
+{}

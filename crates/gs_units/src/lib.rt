@@ -8,3 +8,5 @@ pub use rate::{END, Mode, Rate, RateFault};
 mod laws;
 mod params;
 mod rate;
+#[cfg(test)]
+mod tests;

@@ -42,9 +42,7 @@ impl Rate {
         ensures ok { IfOk result (HasNumbers lo hi mu) }
         ensures low { (result ≡ Err RateFault.Low) ↔ (lo ≡ 0) }
         ensures high { (result ≡ Err RateFault.High) ↔ ((1 ≤ lo) × ((hi ≤ lo) ⊎ (2 ^ 30 < hi))) }
-        ensures boost {
-            (result ≡ Err RateFault.Boost) ↔ ((1 ≤ lo) × (lo < hi) × (hi ≤ 2 ^ 30) × ((mu ≡ 0) ⊎ (100000 < mu)))
-        }
+        ensures boost { (result ≡ Err RateFault.Boost) ↔ ((1 ≤ lo) × (lo < hi) × (hi ≤ 2 ^ 30) × ((mu ≡ 0) ⊎ (100000 < mu))) }
     {
         if lo == 0 {
             return Err(RateFault::Low);

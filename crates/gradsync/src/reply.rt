@@ -1,0 +1,34 @@
+ghost use Rattle.std.specs.Prelude.{◌≡◌, ◌⊎◌};
+ghost use Rattle.gradsync.specs.Answers.{Gives};
+
+use crate::status::Status;
+use gs_io::{Failed, Sink};
+use gs_text::Lines;
+
+/// What is written for some words, and the status that follows.
+#[derive(Drop)]
+pub enum Reply {
+    /// One line.
+    Line(Status, &'static str),
+    /// A text of whole lines.
+    Text(Status, Lines),
+}
+
+impl Reply {
+    ghost use Rattle.gradsync.specs.Reply.{answer_in};
+
+    /// Writes all of it, one line a write, and answers its status; `WriteFault` where a write fails.
+    pub fn write<K: Sink>(&self, out: &mut K) -> Status
+        ensures gives { Gives (answer_in self.now) (K.bytes out.old) (K.bytes out.new) (K.faults out.old) (K.faults out.new) result }
+        ensures no_memory { (result ≡ (answer_in self.now).status) ⊎ (result ≡ Status.WriteFault) }
+    {
+        let (status, text) = match self {
+            Reply::Line(status, line) => (*status, line.as_bytes()),
+            Reply::Text(status, text) => (*status, text.bytes()),
+        };
+        match gs_io::write_lines(out, text) {
+            Ok(()) => status,
+            Err(Failed) => Status::WriteFault,
+        }
+    }
+}
