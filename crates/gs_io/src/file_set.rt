@@ -20,6 +20,7 @@ pub enum FileStop {
     /// The file has more bytes than the caller takes.
     #[error("the file is too long")]
     TooLong,
+    /// Memory for the bytes, or for the record of a failure, was refused.
     #[error("out of memory")]
     OutOfMemory,
 }
@@ -101,6 +102,7 @@ impl Files for MemFiles {
     }
 }
 
+// The bytes of the first file of this name.
 fn first_of<'a>(files: &'a [(String, Vec<u8>)], name: &str) -> Option<&'a [u8]>
     ensures first { IfSome result (λ bytes. first_named (map (λ file. (string_bytes file.0, file.1.items)) files.now) name.now ≡ Some bytes.now) }
     ensures no_file { IsNone result → first_named (map (λ file. (string_bytes file.0, file.1.items)) files.now) name.now ≡ None }
@@ -113,6 +115,7 @@ fn first_of<'a>(files: &'a [(String, Vec<u8>)], name: &str) -> Option<&'a [u8]>
     None
 }
 
+// A copy of bytes of which there are at most `most`.
 fn copy_of(alloc: Global, bytes: &[u8], most: u64) -> Result<Vec<u8>, FileStop>
     ensures bytes { IfOk result (λ copy. copy.items ≡ bytes.now) }
     ensures at_most { OnOk result (length bytes.now ≤ most) }

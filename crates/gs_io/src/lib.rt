@@ -11,3 +11,5 @@ mod failed;
 mod file_set;
 mod gates;
 mod sinks;
+#[cfg(test)]
+mod tests;

@@ -1,4 +1,6 @@
-ghost use Rattle.std.specs.Prelude.{◌≡◌, ℕ, ◌<◌, List, [], ◌++◌, length, Option, Some, None, OnOk, OnErr};
+ghost use Rattle.std.specs.Prelude.{◌≡◌, ◌==◌, ℕ, ◌<◌, ◌≤◌, List, [], ◌++◌, length, take, IfSome, Option, Some, None, OnOk, OnErr};
+ghost use Rattle.std.specs.Io.BufRead.{take_through};
+ghost use Rattle.std.specs.List.{position};
 ghost use Rattle.gs_io.specs.Causes.{HasCause};
 ghost use Rattle.gs_io.specs.Held.{Appends, AppendsFront, Written};
 
@@ -42,10 +44,31 @@ pub fn write_lines<K: Sink>(out: &mut K, text: &[u8]) -> Result<(), Failed>
 fn split_line(text: &[u8]) -> (&[u8], &[u8])
     requires { 0 < length text.now }
     ensures whole { text.now ≡ result.0.now ++ result.1.now }
+    ensures line { result.0.now ≡ take_through 10 text.now }
     ensures some { 0 < length result.0.now }
 {
-    let end = text.iter().position(|c| *c == b'\n');
-    text.split_at(end.map_or(text.len(), |feed| feed + 1))
+    text.split_at(line_len(text))
+}
+
+// How many bytes the first line has, with its line feed.
+#[tactic(auto, using(crate::proofs::Lines::line_ends))]
+fn line_len(text: &[u8]) -> usize
+    requires { 0 < length text.now }
+    ensures line { take result text.now ≡ take_through 10 text.now }
+    ensures some { 0 < result }
+    ensures at_most { result ≤ length text.now }
+{
+    match line_feed(text) {
+        Some(feed) => feed + 1,
+        None => text.len(),
+    }
+}
+
+fn line_feed(text: &[u8]) -> Option<usize>
+    ensures place { result ≡ position (λ c. c == 10) text.now }
+    ensures inside { IfSome result (λ feed. feed < length text.now) }
+{
+    text.iter().position(|c| *c == b'\n')
 }
 
 /// A sink in memory. The calls whose numbers it was given, from 1, fail and keep nothing of their

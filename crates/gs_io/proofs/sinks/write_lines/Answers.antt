@@ -1,5 +1,4 @@
-use Rattle.std.proofs.Common.{rules, ◌≡◌, ◌++◌, ◌≤◌, arith, refl, append_assoc}
-use Rattle.gs_io.specs.Held.{Appends, AppendsFront}
+use Rattle.std.proofs.Common.{rules, ◌≡◌, ◌++◌, arith, refl, append_assoc}
 use Rattle.gs_io.proofs.Writing.{then_appends, then_appends_front}
 use Rattle.gs_io.proofs.sinks.write_lines.Goals as goal
 

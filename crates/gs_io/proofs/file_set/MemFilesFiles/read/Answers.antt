@@ -1,4 +1,4 @@
-use Rattle.std.proofs.Common.{rules, ◌≡◌, ◌++◌, ◌∷◌, [], map, string_bytes}
+use Rattle.std.proofs.Common.{rules, ◌≡◌, map, string_bytes}
 use Rattle.gs_io.specs.declared.file_set.FileStop.TheVariants.{Failed}
 use Rattle.gs_io.proofs.Counts.{raised}
 use Rattle.gs_io.proofs.file_set.MemFilesFiles.read.Goals as goal
