@@ -1,10 +1,8 @@
-use Rattle.std.proofs.Common.{◌≡◌, ℕ, ◌-◌, ◌<◌, ◌≤◌, arith, Bool, true, false, is_some, nat_le, refl, List, if◌then◌else◌}
+use Rattle.std.proofs.Common.{◌≡◌, ◌-◌, arith, Bool, true, false, is_some, nat_le, refl, if◌then◌else◌}
 use Rattle.gs_units.specs.declared.rate.Mode.TheVariants.{Slow, Fast}
-use Rattle.gs_trigger.specs.Sights.{Sight, AreWide}
-use Rattle.gs_trigger.specs.Triggers.{FastAt, SlowAt, fast_level, slow_level}
+use Rattle.gs_trigger.specs.Triggers.{fast_level, slow_level}
 use Rattle.gs_trigger.proofs.Exact.{fast_level-some, slow_level-some, fast_level-none, slow_level-none}
 use Rattle.gs_trigger.proofs.Apart.{never_both}
-use Rattle.gs_steer.specs.Modes.{mode_of}
 use Rattle.gs_steer.specs.Laws.{FastByTrigger, SlowByTrigger, FastFarBehind, SlowNearMaximum}
 
 pub fast_by_trigger : FastByTrigger
