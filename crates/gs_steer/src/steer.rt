@@ -1,0 +1,71 @@
+ghost use Rattle.std.specs.Prelude.{◌≡◌, ℕ, ◌-◌, ◌<◌, ◌≤◌, length, All};
+ghost use Rattle.std.specs.List.{zip};
+ghost use Rattle.gs_units.specs.declared.rate.Mode.TheVariants.{Slow, Fast};
+ghost use Rattle.gs_trigger.specs.Sights.{HasMargin, IsOffset};
+ghost use Rattle.gs_trigger.specs.Triggers.{FastAt, SlowAt};
+ghost use Rattle.gs_steer.specs.Modes.{mode_of};
+
+use gs_trigger::{fast, slow};
+use gs_units::{Link, Mode};
+
+/// The mode of a node whose clock is `l`, whose maximum is `m` and whose neighbours are at these
+/// offsets, one for each link, all in clock units (rule 6 of `docs/MODEL.md`). Neither trigger holds
+/// where no neighbour is far away: then the node runs after the maximum once it is `iota` behind.
+pub fn decide(links: &[Link], iota: u64, offsets: &[i128], m: u64, l: u64) -> Mode
+    requires count { length offsets.now ≡ length links.now }
+    requires links { All HasMargin links.now }
+    requires offsets { All IsOffset offsets.now }
+    requires ahead { l ≤ m }
+    ensures exact { result ≡ mode_of iota (zip links.now offsets.now) m l }
+    ensures fast { (s : ℕ) → 1 ≤ s → FastAt (zip links.now offsets.now) s → result ≡ Fast }
+    ensures slow { (s : ℕ) → 1 ≤ s → SlowAt (zip links.now offsets.now) s → result ≡ Slow }
+    ensures far { ((s : ℕ) → 1 ≤ s → ¬ SlowAt (zip links.now offsets.now) s) → iota ≤ m - l → result ≡ Fast }
+    ensures near { ((s : ℕ) → 1 ≤ s → ¬ FastAt (zip links.now offsets.now) s) → m - l < iota → result ≡ Slow }
+{
+    if fast(links, offsets).is_some() {
+        Mode::Fast
+    } else if slow(links, offsets).is_some() {
+        Mode::Slow
+    } else if m - l >= iota {
+        Mode::Fast
+    } else {
+        Mode::Slow
+    }
+}
+
+#[cfg(test)]
+mod tests {
+    use super::*;
+
+    // Each case has the offset of the only neighbour, how far the clock is behind the maximum, and the
+    // mode.
+    #[test]
+    fn modes(rt: HostRuntime) {
+        let links = [Link {
+            node: 1,
+            comp: 70_000,
+            jump: 20_000,
+            kappa: 122_529,
+            delta: 61_264,
+        }];
+        let cases = [
+            (0i64, 2201u32, Mode::Fast),
+            (0, 2200, Mode::Slow),
+            (61_265, 0, Mode::Fast),
+            (61_264, 0, Mode::Slow),
+            (-183_794, 2201, Mode::Slow),
+            (-183_793, 2201, Mode::Fast),
+        ];
+        for (offset, behind, mode) in cases {
+            let l = 1_000_000;
+            let offsets = [i128::from(offset)];
+            assert_eq!(rt;
+                decide(&links, 2201, &offsets, l + u64::from(behind), l),
+                mode,
+                "{offset}"
+            );
+        }
+        assert_eq!(rt; decide(&[], 2201, &[], 2201, 0), Mode::Fast);
+        assert_eq!(rt; decide(&[], 2201, &[], 2200, 0), Mode::Slow);
+    }
+}

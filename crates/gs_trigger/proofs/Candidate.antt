@@ -1,0 +1,42 @@
+use Rattle.std.proofs.Common.{ℕ, ℤ, ◌*◌, ◌<◌, ◌≤◌, arith, List, [], ◌∷◌, All, Any}
+use Rattle.std.specs.List.{zip}
+use Rattle.std.proofs.lemmas.Int.{ints}
+use Rattle.std.proofs.lemmas.List.Elements.{All-nil, All-cons, All-head, All-tail, All-weaker}
+use Rattle.gs_units.specs.declared.params.Link.{Link}
+use Rattle.gs_units.specs.Params.{IsSound}
+use Rattle.gs_trigger.specs.Sights.{Sight, HasMargin, AreWide}
+use Rattle.gs_trigger.specs.Sides.{Reaches, TriggerAt, IsLowestAllowed}
+use Rattle.gs_trigger.specs.declared.trigger.Trigger.{Trigger}
+use Rattle.gs_trigger.specs.declared.trigger.Trigger.TheVariants.{Fast, Slow}
+use Rattle.gs_trigger.proofs.Distances.{distance-grows}
+
+-- links that a node may run with have their margin
+pub HasMargin-from_IsSound : (links : List Link) → All IsSound links → All HasMargin links
+HasMargin-from_IsSound links each = All-weaker IsSound HasMargin (λ link sound. record { margin = sound.margin; kappa = sound.kappa }) links each
+
+-- links with margin make wide sights
+pub AreWide-zip : (links : List Link) (offsets : List ℤ) → All HasMargin links → AreWide (zip links offsets)
+AreWide-zip [] offsets each = All-nil (λ (x : Sight). 2 * x.0.delta < x.0.kappa)
+AreWide-zip (k ∷ ks) [] each = All-nil (λ (x : Sight). 2 * x.0.delta < x.0.kappa)
+AreWide-zip (k ∷ ks) (v ∷ vs) each =
+    All-cons (λ (x : Sight). 2 * x.0.delta < x.0.kappa) (k, v) (zip ks vs) (All-head HasMargin k ks each).margin (AreWide-zip ks vs (All-tail HasMargin k ks each))
+
+-- who is far enough for a level is far enough for a lower one
+Reaches-lower : (trigger : Trigger) (s t : ℕ) (x : Sight) → s ≤ t → Reaches trigger t x → Reaches trigger s x
+Reaches-lower Fast s t x h reached =
+    let grows = distance-grows Fast x.0.kappa s t h in
+    omega (arith, ints, grows, reached)
+Reaches-lower Slow s t x h reached =
+    let grows = distance-grows Slow x.0.kappa s t h in
+    omega (arith, ints, grows, reached)
+
+-- The lowest level that all allow is the only candidate: the trigger holds at it,
+pub lowest_holds : (trigger : Trigger) (s : ℕ) (xs : List Sight) → IsLowestAllowed trigger xs s → Any (Reaches trigger s) xs → TriggerAt trigger xs s
+lowest_holds trigger s xs lowest some = (some, lowest.allowed)
+
+-- or at none.
+pub none_holds : (trigger : Trigger) (s : ℕ) (xs : List Sight) → IsLowestAllowed trigger xs s → ¬ Any (Reaches trigger s) xs → (t : ℕ) → 1 ≤ t → ¬ TriggerAt trigger xs t
+none_holds trigger s xs lowest none t one holds =
+    let above = lowest.least t one holds.1 in
+    let found = holds.0 in
+    none (found.0, found.1, found.2, found.3, Reaches-lower trigger s t found.1 above found.4)

@@ -1,0 +1,13 @@
+use Rattle.std.proofs.Common.{All}
+use Rattle.std.specs.List.{zip}
+use Rattle.std.specs.Iterator.Adapters.{zip_first, zip_second}
+use Rattle.std.specs.Slice.Iter.{iter_rest}
+use Rattle.gs_trigger.specs.Sights.{HasMargin, IsOffset}
+use Rattle.gs_trigger.proofs.Passes.{IsLowestBefore}
+use Rattle.gs_trigger.proofs.levels.lowest_allowed.Given as goal
+
+abbrev pub invariant-loop-link : goal.invariant-loop-link
+invariant-loop-link l =
+    let links = iter_rest (zip_first l.link-iterator) in
+    let offsets = iter_rest (zip_second l.link-iterator) in
+    All HasMargin links × All IsOffset offsets × IsLowestBefore l.trigger (zip l.links l.offsets) (zip links offsets) l.lowest

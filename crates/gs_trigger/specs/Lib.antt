@@ -1,0 +1,4 @@
+pub mod Sights
+pub mod Triggers
+pub mod Laws
+pub mod Sides

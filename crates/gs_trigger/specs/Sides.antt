@@ -1,0 +1,53 @@
+use Rattle.std.specs.Prelude.{ℕ, ℤ, pos, neg_ℤ, ◌≤ℤ◌, ◌+◌, ◌-◌, ◌≤◌, List, Bool, ◌&&◌, Option, All, Any}
+use Rattle.std.specs.Int.Signed.{le_z}
+use Rattle.std.specs.List.{list_any, list_all}
+use Rattle.gs_trigger.specs.Sights.{Sight}
+use Rattle.gs_trigger.specs.Triggers.{odd_level, even_level, least_from, highest}
+use Rattle.gs_trigger.specs.declared.trigger.Trigger.{Trigger}
+use Rattle.gs_trigger.specs.declared.trigger.Trigger.TheVariants.{Fast, Slow}
+
+-- the distance that a level asks for
+abbrev pub distance_of : Trigger → ℕ → ℕ → ℕ
+distance_of Fast k s = odd_level k s
+distance_of Slow k s = even_level k s
+
+-- how far the neighbour is on the trigger's side
+abbrev pub lead_of : Trigger → ℤ → ℤ
+lead_of Fast x = x
+lead_of Slow x = neg_ℤ x
+
+-- the neighbour is as far on the trigger's side as level s asks
+abbrev pub Reaches : Trigger → ℕ → Sight → Type 0
+Reaches Fast s x = pos (odd_level x.0.kappa s - x.0.delta) ≤ℤ x.1
+Reaches Slow s x = x.1 ≤ℤ neg_ℤ (pos (even_level x.0.kappa s - x.0.delta))
+
+-- the neighbour is no further on the other side than level s allows
+abbrev pub Allows : Trigger → ℕ → Sight → Type 0
+Allows Fast s x = neg_ℤ (pos (odd_level x.0.kappa s + x.0.delta)) ≤ℤ x.1
+Allows Slow s x = x.1 ≤ℤ pos (even_level x.0.kappa s + x.0.delta)
+
+-- the trigger holds at level s: `FastAt` or `SlowAt`
+abbrev pub TriggerAt : Trigger → List Sight → ℕ → Type 0
+TriggerAt trigger sights s = Any (Reaches trigger s) sights × All (Allows trigger s) sights
+
+-- the same as tests
+abbrev pub reaches : Trigger → ℕ → Sight → Bool
+reaches Fast s x = le_z (pos (odd_level x.0.kappa s - x.0.delta)) x.1
+reaches Slow s x = le_z x.1 (neg_ℤ (pos (even_level x.0.kappa s - x.0.delta)))
+
+abbrev pub allows : Trigger → ℕ → Sight → Bool
+allows Fast s x = le_z (neg_ℤ (pos (odd_level x.0.kappa s + x.0.delta))) x.1
+allows Slow s x = le_z x.1 (pos (even_level x.0.kappa s + x.0.delta))
+
+abbrev pub trigger_at : Trigger → List Sight → ℕ → Bool
+trigger_at trigger sights s = list_any (reaches trigger s) sights && list_all (allows trigger s) sights
+
+-- the least level of the trigger: `fast_level` or `slow_level`
+unfoldable pub trigger_level : Trigger → List Sight → Option ℕ
+trigger_level trigger sights = least_from (trigger_at trigger sights) 1 (highest sights)
+
+-- s is the least level at which every neighbour allows the trigger
+pub record IsLowestAllowed (trigger : Trigger) (sights : List Sight) (s : ℕ) : Type 0 where
+  pub first : 1 ≤ s
+  pub allowed : All (Allows trigger s) sights
+  pub least : (t : ℕ) → 1 ≤ t → All (Allows trigger t) sights → s ≤ t

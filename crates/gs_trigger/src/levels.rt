@@ -1,0 +1,162 @@
+ghost use Rattle.std.specs.Prelude.{◌≡◌, ℕ, ◌<◌, ◌≤◌, ◌↔◌, length, All, Any, IsTrue, IfSome, IfNone};
+ghost use Rattle.std.specs.List.{zip};
+ghost use Rattle.gs_trigger.specs.Sights.{HasMargin, IsOffset};
+ghost use Rattle.gs_trigger.specs.Triggers.{FastAt, SlowAt, fast_level, slow_level};
+ghost use Rattle.gs_trigger.specs.Sides.{Reaches, TriggerAt, trigger_level, IsLowestAllowed};
+
+use crate::trigger::Trigger;
+use gs_units::Link;
+
+/// The least level at which the fast trigger holds, None where it holds at none (rule 4 of
+/// `docs/MODEL.md`). Offsets are in clock units, one for each link. No level is tried in turn: each
+/// link's least level comes from one division, and the greatest of these is the only candidate.
+pub fn fast(links: &[Link], offsets: &[i128]) -> Option<u64>
+    requires count { length offsets.now ≡ length links.now }
+    requires links { All HasMargin links.now }
+    requires offsets { All IsOffset offsets.now }
+    ensures exact { result ≡ fast_level (zip links.now offsets.now) }
+    ensures some { IfSome result (λ s. (1 ≤ s) × FastAt (zip links.now offsets.now) s) }
+    ensures least { IfSome result (λ s. (t : ℕ) → 1 ≤ t → FastAt (zip links.now offsets.now) t → s ≤ t) }
+    ensures none { IfNone result ((s : ℕ) → 1 ≤ s → ¬ FastAt (zip links.now offsets.now) s) }
+{
+    least_level(Trigger::Fast, links, offsets)
+}
+
+/// The least level at which the slow trigger holds, None where it holds at none (rule 5 of
+/// `docs/MODEL.md`). As `fast`, with ahead and behind exchanged.
+pub fn slow(links: &[Link], offsets: &[i128]) -> Option<u64>
+    requires count { length offsets.now ≡ length links.now }
+    requires links { All HasMargin links.now }
+    requires offsets { All IsOffset offsets.now }
+    ensures exact { result ≡ slow_level (zip links.now offsets.now) }
+    ensures some { IfSome result (λ s. (1 ≤ s) × SlowAt (zip links.now offsets.now) s) }
+    ensures least { IfSome result (λ s. (t : ℕ) → 1 ≤ t → SlowAt (zip links.now offsets.now) t → s ≤ t) }
+    ensures none { IfNone result ((s : ℕ) → 1 ≤ s → ¬ SlowAt (zip links.now offsets.now) s) }
+{
+    least_level(Trigger::Slow, links, offsets)
+}
+
+/// The least level at which the trigger holds.
+fn least_level(trigger: Trigger, links: &[Link], offsets: &[i128]) -> Option<u64>
+    requires links { All HasMargin links.now }
+    requires offsets { All IsOffset offsets.now }
+    ensures exact { result ≡ trigger_level trigger (zip links.now offsets.now) }
+    ensures some { IfSome result (λ s. (1 ≤ s) × TriggerAt trigger (zip links.now offsets.now) s) }
+    ensures least { IfSome result (λ s. (t : ℕ) → 1 ≤ t → TriggerAt trigger (zip links.now offsets.now) t → s ≤ t) }
+    ensures none { IfNone result ((s : ℕ) → 1 ≤ s → ¬ TriggerAt trigger (zip links.now offsets.now) s) }
+{
+    let s = lowest_allowed(trigger, links, offsets);
+    if some_reach(trigger, links, offsets, s) {
+        Some(s)
+    } else {
+        None
+    }
+}
+
+/// The least level that every neighbour allows.
+fn lowest_allowed(trigger: Trigger, links: &[Link], offsets: &[i128]) -> u64
+    requires links { All HasMargin links.now }
+    requires offsets { All IsOffset offsets.now }
+    ensures { IsLowestAllowed trigger (zip links.now offsets.now) result }
+{
+    let mut lowest = 1;
+    for (link, offset) in links.iter().zip(offsets) {
+        lowest = trigger.allowed_from(link, *offset).max(lowest);
+    }
+    lowest
+}
+
+/// Whether some neighbour is far enough away for level `s`.
+fn some_reach(trigger: Trigger, links: &[Link], offsets: &[i128], s: u64) -> bool
+    requires links { All HasMargin links.now }
+    requires offsets { All IsOffset offsets.now }
+    requires first { 1 ≤ s }
+    ensures { IsTrue result ↔ Any (Reaches trigger s) (zip links.now offsets.now) }
+{
+    for (link, offset) in links.iter().zip(offsets) {
+        if trigger.is_reached(link, *offset, s) {
+            return true;
+        }
+    }
+    false
+}
+
+#[cfg(test)]
+mod tests {
+    use super::*;
+
+    fn link(kappa: u64, delta: u64) -> Link
+        ensures { (result.kappa ≡ kappa) × (result.delta ≡ delta) }
+    {
+        Link {
+            node: 1,
+            comp: 0,
+            jump: 0,
+            kappa,
+            delta,
+        }
+    }
+
+    // Each case has the offsets, and the levels of the fast and of the slow trigger.
+
+    #[test]
+    fn one_neighbour_or_none(rt: HostRuntime) {
+        assert_eq!(rt; (fast(&[], &[]), slow(&[], &[])), (None, None));
+        let links = [link(122_529, 61_264)];
+        let cases = [
+            (61_265i64, Some(1u64), None),
+            (61_264, None, None),
+            (-183_793, None, None),
+            (-183_794, None, Some(1u64)),
+        ];
+        for (offset, ahead, behind) in cases {
+            let offsets = [i128::from(offset)];
+            assert_eq!(rt;
+                (fast(&links, &offsets), slow(&links, &offsets)),
+                (ahead, behind),
+                "at {offset}"
+            );
+        }
+    }
+
+    #[test]
+    fn one_neighbour_keeps_the_other(rt: HostRuntime) {
+        let links = [link(122_529, 61_264), link(122_529, 61_264)];
+        let cases = [
+            (61_265i64, -183_793i64, Some(1u64), None),
+            (61_265, -183_794, None, Some(1u64)),
+            (-183_794, 306_322, None, Some(1)),
+            (306_323, -183_794, Some(2), None),
+        ];
+        for (a, b, ahead, behind) in cases {
+            let offsets = [i128::from(a), i128::from(b)];
+            assert_eq!(rt;
+                (fast(&links, &offsets), slow(&links, &offsets)),
+                (ahead, behind),
+                "at {a} {b}"
+            );
+        }
+    }
+
+    #[test]
+    fn links_of_different_sizes(rt: HostRuntime) {
+        let links = [link(100, 10), link(1000, 100)];
+        let cases = [
+            (90i64, 0i64, Some(1u64), None),
+            (89, 0, None, None),
+            (290, -1101, Some(2), None),
+            (289, -1101, None, None),
+            (-190, 0, None, Some(1u64)),
+            (211, -1900, None, None),
+            (211, -3900, None, Some(2)),
+        ];
+        for (a, b, ahead, behind) in cases {
+            let offsets = [i128::from(a), i128::from(b)];
+            assert_eq!(rt;
+                (fast(&links, &offsets), slow(&links, &offsets)),
+                (ahead, behind),
+                "at {a} {b}"
+            );
+        }
+    }
+}
