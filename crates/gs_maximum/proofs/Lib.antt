@@ -1,0 +1,2 @@
+pub mod Creeping
+pub mod Telling
