@@ -1,10 +1,11 @@
 use Rattle.std.proofs.Common.{◌≡◌, ◌↔◌, ℕ, List, Some, None, Result, Ok, Err, ap, arith, rules}
 use Rattle.gs_beacon.specs.Beacons.{Spells, fault_of}
+use Rattle.gs_beacon.specs.Spelling.{SpellsOneBeacon}
 use Rattle.gs_beacon.specs.declared.beacon.Beacon.{Beacon}
 use Rattle.gs_beacon.specs.declared.beacon.BeaconFault.{BeaconFault}
 
 -- bytes spell one beacon at most, since its fields are theirs
-pub spells-one : (b c : Beacon) (bytes : List ℕ) → Spells b bytes → Spells c bytes → b ≡ c
+pub spells-one : SpellsOneBeacon
 spells-one b c bytes sb sc = search rules
 
 -- bytes that spell a beacon have no fault

@@ -1,6 +1,10 @@
 use Rattle.gs_maximum.proofs.Creeping.{heard_creeps}
+use Rattle.gs_maximum.proofs.Raising.{hearing_raises}
 use Rattle.gs_maximum.proofs.Telling.{hop_tells, hops_tell, earlier_is_told, lag_per_hop}
 use Rattle.gs_maximum.proofs.laws.lag_per_hop.Goals as goal
+
+pub returns-clause-hearing : goal.returns-clause-hearing
+returns-clause-hearing c = hearing_raises
 
 pub returns-clause-creep : goal.returns-clause-creep
 returns-clause-creep c = heard_creeps
