@@ -5,7 +5,7 @@ use Rattle.byteorder.specs.Numbers.{big_number-reads_back}
 use Rattle.gs_beacon.specs.Beacons.{IsBeacon, Spells, magic, number_at}
 use Rattle.gs_beacon.specs.declared.beacon.Beacon.{Beacon}
 
--- the bytes of a beacon: what tells it and its sender, and its numbers
+-- the first 16 bytes of a beacon, and the last 24
 abbrev pub head_bytes : Beacon → List ℕ
 head_bytes b = big_bytes 4 magic ++ (big_bytes 4 b.cluster ++ (big_bytes 4 b.sender ++ big_bytes 4 0))
 

@@ -18,25 +18,31 @@ number_at from n bytes = big_number n (drop from bytes)
 abbrev pub magic : ℕ
 magic = big_number 4 (codes "GCS1")
 
--- the fields of a beacon's 40 bytes
+-- The fields of a beacon's 40 bytes: bytes 0 to 3, which are "GCS1";
 abbrev pub magic_of : List ℕ → ℕ
 magic_of bytes = number_at 0 4 bytes
 
+-- bytes 4 to 7, the cluster;
 abbrev pub cluster_of : List ℕ → ℕ
 cluster_of bytes = number_at 4 4 bytes
 
+-- bytes 8 to 11, the sender;
 abbrev pub sender_of : List ℕ → ℕ
 sender_of bytes = number_at 8 4 bytes
 
+-- bytes 12 to 15, which are 0;
 abbrev pub zero_of : List ℕ → ℕ
 zero_of bytes = number_at 12 4 bytes
 
+-- bytes 16 to 23, the sequence;
 abbrev pub seq_of : List ℕ → ℕ
 seq_of bytes = number_at 16 8 bytes
 
+-- bytes 24 to 31, the clock;
 abbrev pub l_of : List ℕ → ℕ
 l_of bytes = number_at 24 8 bytes
 
+-- bytes 32 to 39, the maximum.
 abbrev pub m_of : List ℕ → ℕ
 m_of bytes = number_at 32 8 bytes
 

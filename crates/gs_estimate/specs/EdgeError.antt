@@ -10,10 +10,11 @@ use Rattle.gs_estimate.specs.declared.slots.Entry.{Entry}
 abbrev pub IsGrowth : ℕ → ℕ → ℕ → ℕ → Type 0
 IsGrowth least most k x = (least * k ≤ x) × (x ≤ most * k)
 
--- what k quanta may add to a hardware reading, and to a logical clock
+-- what k quanta may add to a hardware reading
 abbrev pub IsReadingGrowth : Rate → ℕ → ℕ → Type 0
 IsReadingGrowth rate k x = IsGrowth rate.lo rate.hi k x
 
+-- what k quanta may add to a logical clock
 abbrev pub IsClockGrowth : Rate → ℕ → ℕ → Type 0
 IsClockGrowth rate k x = IsGrowth rate.lo (top_of rate) k x
 

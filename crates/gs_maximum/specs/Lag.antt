@@ -12,11 +12,12 @@ pub record Tells (rate : Rate) (age slack value since m : ℕ) : Type 0 where
   pub recent : since ≤ age
   pub crept : value + g_of rate * since ≤ m + slack
 
--- hearing a value never lowers what was heard, and leaves it at least at that value
+-- what was heard is no less than before, and no less than a value
 pub record IsRaised (rate : Rate) (old new : Max) (value now : ℕ) : Type 0 where
   pub kept : heard_of rate old now ≤ heard_of rate new now
   pub reached : value ≤ heard_of rate new now
 
+-- so it is after the value was heard
 abbrev pub HearingRaises : Type 0
 HearingRaises = (rate : Rate) (m : Max) (value now : ℕ) → IsRaised rate m (raised_to rate m value now) value now
 
