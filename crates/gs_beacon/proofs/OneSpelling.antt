@@ -1,9 +1,9 @@
-use Rattle.std.proofs.Common.{◌≡◌, ℕ, ◌<◌, List, length, slice_index, sym, ◌∙◌, inl, inr, arith}
+use Rattle.std.proofs.Common.{◌≡◌, ℕ, ◌<◌, List, length, slice_index, sym, ◌∙◌, inl, inr, arith, rules}
 use Rattle.std.proofs.lemmas.Bool.{cases_lt}
 use Rattle.std.proofs.lemmas.List.{ext_get_or, get_or_past}
 use Rattle.std.proofs.lemmas.List.Elements.{All-get_or}
 use Rattle.gs_beacon.specs.Beacons.{Spells}
-use Rattle.gs_beacon.specs.Spelling.{AreBytes, HasOneSpelling}
+use Rattle.gs_beacon.specs.Spelling.{AreBytes, HasOneSpelling, SpellsOneBeacon}
 use Rattle.gs_beacon.specs.declared.beacon.Beacon.{Beacon}
 use Rattle.gs_beacon.proofs.Digits.{field-same}
 
@@ -43,3 +43,7 @@ byte-same b xs ys ax ay sx sy i below =
 pub has_one_spelling : HasOneSpelling
 has_one_spelling b xs ys ax ay sx sy = ext_get_or 0 xs ys (sx.count ∙ sym sy.count)
     (λ i below. byte-same b xs ys ax ay sx sy i (omega (arith, sx.count)))
+
+-- the fields of bytes are those of one beacon at most
+pub spells_one_beacon : SpellsOneBeacon
+spells_one_beacon b c bytes sb sc = search rules

@@ -1,4 +1,4 @@
-ghost use Rattle.std.specs.Prelude.{◌≡◌, ◌+◌, ◌≤◌, ◌↔◌, ◌++◌, length, drop, IfOk, Ok, Err, Some};
+ghost use Rattle.std.specs.Prelude.{◌≡◌, ◌+◌, ◌≤◌, ◌++◌, length, drop, IfOk, IfErr, Ok, Err, Some};
 ghost use Rattle.byteorder.specs.Endian.{big_bytes};
 ghost use Rattle.gs_beacon.specs.Beacons.{IsBeacon, Spells, fault_of, number_at};
 
@@ -88,9 +88,13 @@ fn write_numbers(bytes: &mut [u8], seq: u64, l: u64, m: u64)
 
 /// The beacon that bytes spell, or the first fault in the order of `BeaconFault`.
 pub fn decode(bytes: &[u8]) -> Result<Beacon, BeaconFault>
-    ensures spelled { (b : Beacon) → (result ≡ Ok b) ↔ Spells b bytes.now }
-    ensures fault { (f : BeaconFault) → (result ≡ Err f) ↔ (fault_of bytes.now ≡ Some f) }
+    ensures ok { IfOk result (λ b. Spells b bytes.now) }
     ensures valid { IfOk result IsBeacon }
+    ensures err { IfErr result (λ f. fault_of bytes.now ≡ Some f) }
+
+    // And no spelling is refused, nor any fault passed over.
+    ensures every_spelling { (b : Beacon) → Spells b bytes.now → result ≡ Ok b }
+    ensures every_fault { (f : BeaconFault) → fault_of bytes.now ≡ Some f → result ≡ Err f }
 {
     if bytes.len() != 40 {
         return Err(BeaconFault::Length);
