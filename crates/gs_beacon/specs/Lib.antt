@@ -1,0 +1,2 @@
+pub mod Beacons
+pub mod Spelling

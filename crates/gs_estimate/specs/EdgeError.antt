@@ -1,0 +1,63 @@
+use Rattle.std.specs.Prelude.{◌≡◌, ℕ, ◌+◌, ◌-◌, ◌*◌, ◌/◌, ◌≤◌}
+use Rattle.gs_units.specs.Rates.{top_of}
+use Rattle.gs_units.specs.declared.rate.Rate.{Rate}
+use Rattle.gs_estimate.specs.Entries.{estimate_of}
+use Rattle.gs_estimate.specs.declared.slots.Entry.{Entry}
+
+-- The error of one edge, as a law on numbers. Delays and ages are in quanta, clocks in clock units.
+
+-- what k quanta may add, where each adds least to most
+abbrev pub IsGrowth : ℕ → ℕ → ℕ → ℕ → Type 0
+IsGrowth least most k x = (least * k ≤ x) × (x ≤ most * k)
+
+-- what k quanta may add to a hardware reading
+abbrev pub IsReadingGrowth : Rate → ℕ → ℕ → Type 0
+IsReadingGrowth rate k x = IsGrowth rate.lo rate.hi k x
+
+-- what k quanta may add to a logical clock
+abbrev pub IsClockGrowth : Rate → ℕ → ℕ → Type 0
+IsClockGrowth rate k x = IsGrowth rate.lo (top_of rate) k x
+
+-- the delay of an edge, from the least to the greatest
+abbrev pub IsDelay : ℕ → ℕ → ℕ → Type 0
+IsDelay soonest latest k = (soonest ≤ k) × (k ≤ latest)
+
+-- j: how much the delays of an edge spread, in clock units
+abbrev pub spread_of : Rate → ℕ → ℕ → ℕ
+spread_of rate soonest latest = rate.lo * (latest - soonest)
+
+-- what a beacon's clock is raised by for its way
+abbrev pub comp_of : Rate → ℕ → ℕ → ℕ
+comp_of rate soonest latest = rate.lo * soonest + spread_of rate soonest latest / 2
+
+-- how far two logical clocks may drift apart in one quantum
+abbrev pub drift_of : Rate → ℕ
+drift_of rate = top_of rate - rate.lo
+
+-- an estimate is as close to the true clock as the drift and the spread of the delays allow
+pub record IsClose (drift spread estimate clock : ℕ) : Type 0 where
+  pub most : estimate ≤ clock + drift + spread / 2
+  pub least : clock ≤ estimate + drift + (spread + 1) / 2
+
+-- An entry that a beacon gave: it told the clock, was `way` quanta under way, and was heard `kept` quanta ago. Its
+-- estimate is close to what the clock has grown to.
+abbrev pub BeaconIsClose : Type 0
+BeaconIsClose = (rate : Rate) (soonest latest way kept age clock grown : ℕ) (e : Entry) (now : ℕ)
+    → IsDelay soonest latest way → way + kept ≤ age
+    → e.value ≡ clock + comp_of rate soonest latest → IsReadingGrowth rate kept (now - e.at) → IsClockGrowth rate (way + kept) grown
+    → IsClose (drift_of rate * age) (spread_of rate soonest latest) (estimate_of e now) (clock + grown)
+
+-- So is the entry of a start from equal clocks, `kept` quanta ago.
+abbrev pub StartIsClose : Type 0
+StartIsClose = (rate : Rate) (spread kept age clock grown : ℕ) (e : Entry) (now : ℕ)
+    → kept ≤ age → e.value ≡ clock → IsReadingGrowth rate kept (now - e.at) → IsClockGrowth rate kept grown
+    → IsClose (drift_of rate * age) spread (estimate_of e now) (clock + grown)
+
+-- A decision uses the estimate for at most `tick` quanta, in which the own clock and the neighbour's grow on. Its
+-- offset is as close to the true one, with the drift of these quanta more. (Offsets are differences to the own clock,
+-- so what that has grown by stands on the side of the estimate.)
+abbrev pub OffsetStaysClose : Type 0
+OffsetStaysClose = (rate : Rate) (spread age tick since estimate clock own_grown grown : ℕ)
+    → IsClose (drift_of rate * age) spread estimate clock → since ≤ tick
+    → IsClockGrowth rate since own_grown → IsClockGrowth rate since grown
+    → IsClose (drift_of rate * (age + tick)) spread (estimate + own_grown) (clock + grown)

@@ -1,0 +1,3 @@
+pub mod Creeping
+pub mod Raising
+pub mod Telling

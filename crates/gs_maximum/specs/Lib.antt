@@ -1,0 +1,3 @@
+pub mod Maximum
+pub mod NeverAhead
+pub mod Lag
