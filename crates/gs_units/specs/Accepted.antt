@@ -1,4 +1,4 @@
-use Rattle.std.specs.Prelude.{ℕ, ◌<◌, ◌≤◌, ◌^◌}
+use Rattle.std.specs.Prelude.{ℕ, ◌*◌, ◌/◌, ◌<◌, ◌≤◌, ◌^◌}
 
 -- the numbers that a rate may have
 pub record AreRates (lo hi mu : ℕ) : Type 0 where
@@ -7,3 +7,11 @@ pub record AreRates (lo hi mu : ℕ) : Type 0 where
   pub high : hi ≤ 2 ^ 30
   pub some_boost : 1 ≤ mu
   pub boost : mu ≤ 100000
+
+-- what a boost of mu parts per million adds to h
+abbrev pub boosted : ℕ → ℕ → ℕ
+boosted mu h = h * mu / 1000000
+
+-- what the slowest clock grows by at least while the fastest grows by h
+abbrev pub crept : ℕ → ℕ → ℕ → ℕ
+crept lo hi h = h * lo / hi

@@ -1,4 +1,5 @@
-use Rattle.std.specs.Prelude.{◌≡◌, ℕ, ◌+◌, ◌-◌, ◌*◌, ◌/◌}
+use Rattle.std.specs.Prelude.{◌≡◌, ℕ, ◌+◌, ◌-◌, ◌/◌}
+use Rattle.gs_units.specs.Accepted.{boosted, crept}
 use Rattle.gs_units.specs.declared.rate.Rate.{Rate}
 use Rattle.gs_units.specs.declared.rate.Mode.{Mode}
 use Rattle.gs_units.specs.declared.rate.Mode.TheVariants.{Slow, Fast}
@@ -11,11 +12,11 @@ pub record HasNumbers (low high boost : ℕ) (rate : Rate) : Type 0 where
 
 -- what the fast mode adds while the hardware clock grows by h
 abbrev pub boost_of : Rate → ℕ → ℕ
-boost_of rate h = h * rate.mu / 1000000
+boost_of rate h = boosted rate.mu h
 
 -- what any clock has grown by at least while this hardware clock grew by h
 abbrev pub creep_of : Rate → ℕ → ℕ
-creep_of rate h = h * rate.lo / rate.hi
+creep_of rate h = crept rate.lo rate.hi h
 
 -- what a logical clock grows by while its hardware clock grows by h
 abbrev pub steer_of : Rate → Mode → ℕ → ℕ

@@ -1,4 +1,4 @@
-ghost use Rattle.std.specs.Prelude.{◌≡◌, ◌*◌, ◌<◌, ◌≤◌, ◌^◌, ◌↔◌, ◌⊎◌, IfOk};
+ghost use Rattle.std.specs.Prelude.{◌≡◌, ◌*◌, ◌<◌, ◌≤◌, ◌^◌, ◌↔◌, ◌⊎◌, Some, None, IfOk, IfErr};
 ghost use Rattle.gs_units.specs.Accepted.{AreRates};
 
 /// Readings, clocks and maxima stay below this number of clock units.
@@ -35,11 +35,15 @@ pub struct Rate {
 }
 
 impl Rate {
+    ghost use Rattle.gs_units.specs.Faults.{rate_fault};
     ghost use Rattle.gs_units.specs.Rates.{HasNumbers, boost_of, creep_of, gap_of, q_of, g_of, top_of, sigma_of, steer_of};
 
     /// Takes the numbers of a plan. See `docs/MODEL.md`, "The numbers of a plan".
     pub fn new(lo: u32, hi: u32, mu: u32) -> Result<Rate, RateFault>
-        ensures ok { IfOk result (HasNumbers lo hi mu) }
+        ensures ok { IfOk result (λ rate. HasNumbers lo hi mu rate × (rate_fault lo hi mu ≡ None)) }
+        ensures err { IfErr result (λ fault. rate_fault lo hi mu ≡ Some fault) }
+
+        // The same, fault by fault.
         ensures low { (result ≡ Err RateFault.Low) ↔ (lo ≡ 0) }
         ensures high { (result ≡ Err RateFault.High) ↔ ((1 ≤ lo) × ((hi ≤ lo) ⊎ (2 ^ 30 < hi))) }
         ensures boost { (result ≡ Err RateFault.Boost) ↔ ((1 ≤ lo) × (lo < hi) × (hi ≤ 2 ^ 30) × ((mu ≡ 0) ⊎ (100000 < mu))) }
