@@ -1,0 +1,5 @@
+pub mod Keys
+pub mod Values
+pub mod Meaning
+pub mod Texts
+pub mod Writing

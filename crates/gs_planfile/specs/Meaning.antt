@@ -1,0 +1,56 @@
+-- What a plan file means: the keys in the order in which they are looked at, and the first that is at fault.
+use Rattle.std.specs.Prelude.{ℕ, List, [], ◌∷◌, not, Bool, Option, Some, None, Result, Ok, Err, if◌then◌else◌}
+use Rattle.std.specs.List.{list_any}
+use Rattle.std.specs.Str.{is_utf8}
+use Rattle.toml.specs.Data.{Members, no_members, member}
+use Rattle.toml.specs.Parse.{parse_document}
+use Rattle.gs_planfile.specs.declared.key.Key.TheVariants.{Cluster, Lo, Hi, Mu, Tick, DelayMin, DelayMax, Every, Losses, Age, Levels, Port}
+use Rattle.gs_planfile.specs.declared.key.PlanFileFault.{PlanFileFault}
+use Rattle.gs_planfile.specs.declared.key.PlanFileFault.TheVariants.{Utf8, Toml, Extra}
+use Rattle.gs_planfile.specs.declared.text.PlanText.{PlanText}
+use Rattle.gs_planfile.specs.declared.text.Shape.{Shape}
+use Rattle.gs_planfile.specs.declared.text.Version.{Version}
+use Rattle.gs_planfile.specs.Keys.{is_allowed}
+use Rattle.gs_planfile.specs.Values.{◌>>=◌, kappa_at, number_at, number_or, shape_at, spans_at, version_at}
+
+-- the keys that stand there
+abbrev pub names : Members → List (List ℕ)
+names no_members = []
+names (member name value ms) = name ∷ names ms
+
+-- whether a key stands there that this version and shape do not take
+abbrev pub has_extra : Version → Shape → Members → Bool
+has_extra version shape ms = list_any (λ name. not (is_allowed version shape name)) (names ms)
+
+abbrev pub no_extra : Version → Shape → Members → Result (Unit {0}) PlanFileFault
+no_extra version shape ms = if has_extra version shape ms then Err Extra else Ok tt
+
+-- what a document says as a plan, or its first fault
+unfoldable pub plan_in : Members → Result PlanText PlanFileFault
+plan_in ms = do
+  version ← version_at ms
+  cluster ← number_at Cluster ms
+  shape ← shape_at ms
+  lo ← number_at Lo ms
+  hi ← number_at Hi ms
+  mu ← number_at Mu ms
+  tick ← number_at Tick ms
+  delay_min ← number_at DelayMin ms
+  delay_max ← number_at DelayMax ms
+  every ← number_at Every ms
+  losses ← number_at Losses ms
+  age ← number_at Age ms
+  kappa ← kappa_at ms
+  levels ← number_or 4 Levels ms
+  port ← number_or 40000 Port ms
+  spans ← spans_at version ms
+  extra ← no_extra version shape ms
+  Ok (record { version = version; cluster = cluster; shape = shape; lo = lo; hi = hi; mu = mu; tick = tick; delay_min = delay_min; delay_max = delay_max; every = every; losses = losses; age = age; kappa = kappa; levels = levels; port = port; spans = spans })
+
+abbrev pub plan_of_document : Option Members → Result PlanText PlanFileFault
+plan_of_document None = Err Toml
+plan_of_document (Some ms) = plan_in ms
+
+-- what these bytes say as a plan, or their first fault
+abbrev pub plan_of : List ℕ → Result PlanText PlanFileFault
+plan_of bytes = if is_utf8 bytes then plan_of_document (parse_document bytes) else Err Utf8
