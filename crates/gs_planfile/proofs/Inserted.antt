@@ -9,7 +9,7 @@ use Rattle.toml.specs.declared.value.Value.{Value}
 use Rattle.std.specs.Ordering.{match_ordering, ordering_reverse}
 use Rattle.std.proofs.lemmas.Cmp.{nat_list_cmp_total}
 use Rattle.toml.specs.Data.{Data, Members, no_members, member, get_member, same_key}
-use Rattle.gs_planfile.specs.Meaning.{names}
+use Rattle.gs_planfile.specs.Extra.{names}
 use Rattle.gs_planfile.specs.Writing.{insert_member}
 
 skip : (o : Ordering) (rest : Option Data) (d : Data) → is_eq o ≡ false → match_ordering o rest (Some d) rest ≡ rest

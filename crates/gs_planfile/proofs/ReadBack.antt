@@ -5,7 +5,7 @@ use Rattle.std.specs.Cmp.Lexicographic.{slice_cmp}
 use Rattle.std.specs.Ordering.{match_ordering}
 use Rattle.std.specs.List.{list_all, AllByRecursion}
 use Rattle.toml.specs.View.{items_of}
-use Rattle.toml.specs.Data.{Data, array, at, depth, items_depth, members_depth, Members, no_members, member, get_item, get_member, integer, same_key}
+use Rattle.toml.specs.Data.{Data, depth, items_depth, members_depth, Members, no_members, member, get_item, get_member, integer, same_key}
 use Rattle.gs_planfile.specs.declared.key.Key.{Key}
 use Rattle.gs_planfile.specs.declared.key.Key.TheVariants as key
 use Rattle.gs_planfile.specs.declared.text.EdgeSpan.{EdgeSpan}
@@ -13,10 +13,13 @@ use Rattle.gs_planfile.specs.declared.text.PlanText.{PlanText}
 use Rattle.gs_planfile.specs.declared.text.Shape.{Shape}
 use Rattle.gs_planfile.specs.declared.text.Shape.TheVariants as shape
 use Rattle.gs_planfile.specs.declared.text.Version.TheVariants as version
-use Rattle.gs_planfile.specs.Keys.{is_allowed, key_name}
-use Rattle.gs_planfile.specs.Meaning.{has_extra, plan_in}
-use Rattle.gs_planfile.specs.Texts.{KappaFits, newest}
-use Rattle.gs_planfile.specs.Values.{each, edge_of, edges_of, is_edge, is_span, kappa_at, number_at, number_or, optional_kappa, shape_at, span_of, spans_at, spans_of, value_at, values, version_at}
+use Rattle.gs_planfile.specs.Extra.{has_extra, is_allowed}
+use Rattle.gs_planfile.specs.Keys.{key_name}
+use Rattle.gs_planfile.specs.Lists.{each, edge_of, edges_of, is_edge, is_span, span_of, spans_at, values}
+use Rattle.gs_planfile.specs.Meaning.{plan_in}
+use Rattle.gs_planfile.specs.Shapes.{shape_at}
+use Rattle.gs_planfile.specs.Texts.{newest}
+use Rattle.gs_planfile.specs.Values.{kappa_at, number_at, number_or, optional_kappa, value_at, version_at}
 use Rattle.gs_planfile.specs.Writing.{EdgeFits, Fits, ShapeFits, SpanFits, edge_data, edges_data, insert_member, kappa_items, put, put_kappa, put_number, put_rates, put_shape, put_spans, put_times, span_data, spans_data, written}
 use Rattle.gs_planfile.proofs.Inserted.{get-insert, any-insert}
 
@@ -238,8 +241,25 @@ extra_back t =
 pub plan_back : (t : PlanText) → Fits t → plan_in (written t) ≡ Ok (newest t)
 unfolding plan_in
 plan_back t h =
-    rw (version_back t, cluster_back t h, shape_back t h, lo_back t h, hi_back t h, mu_back t h, tick_back t h, delay_min_back t h, delay_max_back t h,
-    every_back t h, losses_back t h, age_back t h, kappa_back t h, levels_back t h, port_back t h, spans_back t h, extra_back t)
+    rw (
+      version_back t,
+      cluster_back t h,
+      shape_back t h,
+      lo_back t h,
+      hi_back t h,
+      mu_back t h,
+      tick_back t h,
+      delay_min_back t h,
+      delay_max_back t h,
+      every_back t h,
+      losses_back t h,
+      age_back t h,
+      kappa_back t h,
+      levels_back t h,
+      port_back t h,
+      spans_back t h,
+      extra_back t,
+    )
 
 abbrev IsFlat : Members → Type 0
 IsFlat ms = members_depth ms ≤ 80

@@ -1,5 +1,5 @@
-use Rattle.std.proofs.Common.{ℕ, zero, suc, arith, ◌+◌, ◌<◌, ◌≤◌, ◌≡◌, ◌∙◌, ap, sym, refl, true, false, Bool, ◌&&◌, ◌||◌, ◌==◌, List, [], ◌∷◌, ◌++◌, map, drop, length, get_or, append_assoc, Result, Ok, Err, String, string_bytes, Global, Vec}
-use Rattle.std.specs.Prelude.{IsUtf8, if◌then◌else◌}
+use Rattle.std.proofs.Common.{ℕ, suc, ◌+◌, ◌<◌, ◌≤◌, ◌≡◌, ap, sym, refl, true, false, Bool, ◌&&◌, ◌||◌, ◌==◌, List, [], ◌∷◌, ◌++◌, map, drop, length, get_or, append_assoc, Result, Ok, Err, String, string_bytes, Global, Vec}
+use Rattle.std.specs.Prelude.{IsUtf8}
 use Rattle.std.specs.List.{list_all, list_any}
 use Rattle.std.specs.Map.{keys_of}
 use Rattle.std.specs.Str.{is_utf8}
@@ -12,8 +12,9 @@ use Rattle.toml.specs.declared.value.Value.{Value, Array}
 use Rattle.toml.proofs.Views.{view-Array}
 use Rattle.gs_planfile.specs.declared.key.Key.TheVariants as key
 use Rattle.gs_planfile.specs.declared.key.PlanFileFault.{PlanFileFault}
-use Rattle.gs_planfile.specs.Meaning.{names}
-use Rattle.gs_planfile.specs.Values.{◌>>=◌, each, edge_of, edges_of, is_edge, is_integer, is_span, list_of, span_of, spans_of, values}
+use Rattle.gs_planfile.specs.Extra.{names}
+use Rattle.gs_planfile.specs.Lists.{each, edge_of, edges_of, is_edge, is_integer, is_span, list_of, span_of, spans_of, values}
+use Rattle.gs_planfile.specs.Values.{◌>>=◌}
 
 -- the values of an array's view
 values-view : (vs : List Value) → values (items_view vs) ≡ map view vs

@@ -1,29 +1,16 @@
--- What a plan file means: the keys in the order in which they are looked at, and the first that is at fault.
-use Rattle.std.specs.Prelude.{ℕ, List, [], ◌∷◌, not, Bool, Option, Some, None, Result, Ok, Err, if◌then◌else◌}
-use Rattle.std.specs.List.{list_any}
+-- What a plan file means: its keys are looked at in this order, and the first that is at fault decides.
+use Rattle.std.specs.Prelude.{ℕ, List, Option, Some, None, Result, Ok, Err, if◌then◌else◌}
 use Rattle.std.specs.Str.{is_utf8}
-use Rattle.toml.specs.Data.{Members, no_members, member}
+use Rattle.toml.specs.Data.{Members}
 use Rattle.toml.specs.Parse.{parse_document}
 use Rattle.gs_planfile.specs.declared.key.Key.TheVariants.{Cluster, Lo, Hi, Mu, Tick, DelayMin, DelayMax, Every, Losses, Age, Levels, Port}
 use Rattle.gs_planfile.specs.declared.key.PlanFileFault.{PlanFileFault}
-use Rattle.gs_planfile.specs.declared.key.PlanFileFault.TheVariants.{Utf8, Toml, Extra}
+use Rattle.gs_planfile.specs.declared.key.PlanFileFault.TheVariants.{Utf8, Toml}
 use Rattle.gs_planfile.specs.declared.text.PlanText.{PlanText}
-use Rattle.gs_planfile.specs.declared.text.Shape.{Shape}
-use Rattle.gs_planfile.specs.declared.text.Version.{Version}
-use Rattle.gs_planfile.specs.Keys.{is_allowed}
-use Rattle.gs_planfile.specs.Values.{◌>>=◌, kappa_at, number_at, number_or, shape_at, spans_at, version_at}
-
--- the keys that stand there
-abbrev pub names : Members → List (List ℕ)
-names no_members = []
-names (member name value ms) = name ∷ names ms
-
--- whether a key stands there that this version and shape do not take
-abbrev pub has_extra : Version → Shape → Members → Bool
-has_extra version shape ms = list_any (λ name. not (is_allowed version shape name)) (names ms)
-
-abbrev pub no_extra : Version → Shape → Members → Result (Unit {0}) PlanFileFault
-no_extra version shape ms = if has_extra version shape ms then Err Extra else Ok tt
+use Rattle.gs_planfile.specs.Extra.{no_extra}
+use Rattle.gs_planfile.specs.Lists.{spans_at}
+use Rattle.gs_planfile.specs.Shapes.{shape_at}
+use Rattle.gs_planfile.specs.Values.{◌>>=◌, kappa_at, number_at, number_or, version_at}
 
 -- what a document says as a plan, or its first fault
 unfoldable pub plan_in : Members → Result PlanText PlanFileFault
@@ -45,7 +32,24 @@ plan_in ms = do
   port ← number_or 40000 Port ms
   spans ← spans_at version ms
   extra ← no_extra version shape ms
-  Ok (record { version = version; cluster = cluster; shape = shape; lo = lo; hi = hi; mu = mu; tick = tick; delay_min = delay_min; delay_max = delay_max; every = every; losses = losses; age = age; kappa = kappa; levels = levels; port = port; spans = spans })
+  Ok (record {
+    version = version;
+    cluster = cluster;
+    shape = shape;
+    lo = lo;
+    hi = hi;
+    mu = mu;
+    tick = tick;
+    delay_min = delay_min;
+    delay_max = delay_max;
+    every = every;
+    losses = losses;
+    age = age;
+    kappa = kappa;
+    levels = levels;
+    port = port;
+    spans = spans;
+  })
 
 abbrev pub plan_of_document : Option Members → Result PlanText PlanFileFault
 plan_of_document None = Err Toml

@@ -1,6 +1,7 @@
 ghost use Rattle.std.specs.Prelude.{◌≡◌, ◌&&◌};
 ghost use Rattle.std.specs.Str.{bytes_eq};
-ghost use Rattle.gs_planfile.specs.Keys.{is_allowed, key_name, may_stand};
+ghost use Rattle.gs_planfile.specs.Extra.{is_allowed, may_stand};
+ghost use Rattle.gs_planfile.specs.Keys.{key_name};
 
 use crate::text::{Shape, Version};
 
@@ -143,7 +144,7 @@ impl Key {
 }
 
 /// Whether a key of this name may stand in a file of this version and shape.
-#[tactic(auto, unfolding(crate::specs::Keys::is_allowed))]
+#[tactic(auto, unfolding(crate::specs::Extra::is_allowed))]
 pub fn is_allowed(version: Version, shape: &Shape, name: &str) -> bool
     ensures { result ≡ is_allowed version shape.now name.now }
 {

@@ -11,6 +11,8 @@ mod key;
 mod lists;
 mod read;
 mod shape;
+#[cfg(test)]
+mod tests;
 mod text;
 mod values;
 mod write;

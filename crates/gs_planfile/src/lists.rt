@@ -1,14 +1,37 @@
-ghost use Rattle.std.specs.Prelude.{◌≡◌, ◌≢◌, All, Err, IfErr, IfOk, Ok, map, []};
+ghost use Rattle.std.specs.Prelude.{◌≡◌, ◌≢◌, ◌<◌, ◌^◌, All, Err, IfErr, IfOk, IfSome, Ok, map, []};
 ghost use Rattle.std.specs.List.{list_all};
+ghost use Rattle.toml.specs.Data.{at};
 ghost use Rattle.toml.specs.View.{table_view, view};
+ghost use Rattle.gs_planfile.specs.Lists.{each, edge_of, edges_at, edges_of, is_edge, is_integer, is_span, list_of, number_in, span_of, spans_at, spans_of};
 ghost use Rattle.gs_planfile.specs.Texts.{KappaFits};
-ghost use Rattle.gs_planfile.specs.Values.{each, edge_of, edges_at, edges_of, is_edge, is_integer, is_span, list_of, span_of, spans_at, spans_of};
+ghost use Rattle.gs_planfile.specs.Values.{optional_kappa};
 
 use crate::key::{Key, PlanFileFault};
 use crate::text::{EdgeList, EdgeSpan, Spans, Version};
-use crate::values::{number_in, optional_kappa_in, value_at};
+use crate::values::{kappa_of, number_of, value_at};
 use std::alloc::Global;
 use toml::{Table, Value};
+
+/// The number at a place of an array.
+fn number_in(key: Key, i: usize, value: &Value) -> Result<u32, PlanFileFault>
+    ensures { result ≡ number_in key i (view value.now) }
+{
+    match value.get(i) {
+        Some(item) => number_of(key, item),
+        None => Err(PlanFileFault::Kind(key)),
+    }
+}
+
+/// The kappa at a place of an array, where the array is so long.
+fn optional_kappa_in(key: Key, i: usize, value: &Value) -> Result<Option<u64>, PlanFileFault>
+    ensures value { result ≡ optional_kappa key (at i (view value.now)) }
+    ensures fits { IfOk result (λ o. IfSome o (λ kappa. kappa < 2 ^ 62)) }
+{
+    match value.get(i) {
+        Some(item) => Ok(Some(kappa_of(key, item)?)),
+        None => Ok(None),
+    }
+}
 
 fn is_integer(value: &Value) -> bool
     ensures { result ≡ is_integer (view value.now) }
@@ -64,7 +87,7 @@ fn edge_of(value: &Value) -> Result<(u32, u32), PlanFileFault>
     Ok((a, b))
 }
 
-#[tactic(auto, unfolding(crate::specs::Values::span_of))]
+#[tactic(auto, unfolding(crate::specs::Lists::span_of))]
 fn span_of(value: &Value) -> Result<EdgeSpan, PlanFileFault>
     ensures value { result ≡ span_of (view value.now) }
     ensures fits { IfOk result KappaFits }

@@ -1,10 +1,10 @@
-ghost use Rattle.std.specs.Prelude.{◌≡◌, ◌≢◌, Err, IfErr, IfOk, Ok, not, string_bytes};
+ghost use Rattle.std.specs.Prelude.{◌≡◌, ◌≢◌, ◌↔◌, ◌⊎◌, Err, IfErr, IfOk, IsUtf8, None, Ok, not, string_bytes};
 ghost use Rattle.std.specs.BTreeMap.{keys};
 ghost use Rattle.std.specs.List.{list_any};
 ghost use Rattle.toml.specs.Parse.{parse_document};
 ghost use Rattle.toml.specs.View.{table_view};
-ghost use Rattle.gs_planfile.specs.Keys.{is_allowed};
-ghost use Rattle.gs_planfile.specs.Meaning.{has_extra, plan_in, plan_of, plan_of_document};
+ghost use Rattle.gs_planfile.specs.Extra.{has_extra, is_allowed};
+ghost use Rattle.gs_planfile.specs.Meaning.{plan_in, plan_of, plan_of_document};
 ghost use Rattle.gs_planfile.specs.Texts.{IsText};
 
 use crate::key::{Key, PlanFileFault, is_allowed};
@@ -80,6 +80,8 @@ fn plan_of_text(alloc: Global, text: &str) -> Result<PlanText, PlanFileFault>
     ensures ok { IfOk result (λ plan. plan_of_document (parse_document text.now) ≡ Ok plan) }
     ensures text { IfOk result IsText }
     ensures err { IfErr result (λ e. e ≢ PlanFileFault.OutOfMemory → plan_of_document (parse_document text.now) ≡ Err e) }
+    ensures never_utf8 { result ≢ Err PlanFileFault.Utf8 }
+    ensures toml { result ≡ Err PlanFileFault.Toml → parse_document text.now ≡ None }
 {
     match toml::table_from_str(alloc, text) {
         Ok(table) => plan_in(alloc, &table),
@@ -99,6 +101,12 @@ pub fn read_plan(alloc: Global, bytes: &[u8]) -> Result<PlanText, PlanFileFault>
     ensures ok { IfOk result (λ text. plan_of bytes.now ≡ Ok text) }
     ensures text { IfOk result IsText }
     ensures err { IfErr result (λ e. e ≢ PlanFileFault.OutOfMemory → plan_of bytes.now ≡ Err e) }
+
+    // What the text alone is refused for, in the words of UTF-8 and TOML.
+    ensures utf8 { (result ≡ Err PlanFileFault.Utf8) ↔ ¬ IsUtf8 bytes.now }
+    ensures toml { result ≡ Err PlanFileFault.Toml → IsUtf8 bytes.now × (parse_document bytes.now ≡ None) }
+    ensures no_document { IsUtf8 bytes.now → parse_document bytes.now ≡ None
+        → (result ≡ Err PlanFileFault.Toml) ⊎ (result ≡ Err PlanFileFault.OutOfMemory) }
 {
     match str::from_utf8(bytes) {
         Ok(text) => plan_of_text(alloc, text),

@@ -1,6 +1,6 @@
 ghost use Rattle.std.specs.Prelude.{◌≡◌, ◌≢◌, Err, IfErr, IfOk, Ok};
 ghost use Rattle.toml.specs.View.{table_view};
-ghost use Rattle.gs_planfile.specs.Values.{grid_at, line_at, listed_at, ring_at, shape_at, shape_named};
+ghost use Rattle.gs_planfile.specs.Shapes.{grid_at, line_at, listed_at, ring_at, shape_at, shape_named};
 
 use crate::key::{Key, PlanFileFault};
 use crate::lists::edges_at;

@@ -1,7 +1,6 @@
 ghost use Rattle.std.specs.Prelude.{◌≡◌, ◌<◌, ◌^◌, IfOk, IfSome, option_map};
-ghost use Rattle.toml.specs.Data.{at};
 ghost use Rattle.toml.specs.View.{table_view, view};
-ghost use Rattle.gs_planfile.specs.Values.{kappa_at, kappa_of, number_at, number_in, number_of, number_or, optional_kappa, value_at, version_at, version_of};
+ghost use Rattle.gs_planfile.specs.Values.{kappa_at, kappa_of, number_at, number_of, number_or, value_at, version_at, version_of};
 
 use crate::key::{Key, PlanFileFault};
 use crate::text::Version;
@@ -45,27 +44,6 @@ fn version_of(value: &Value) -> Result<Version, PlanFileFault>
             }
         }
         _ => Err(PlanFileFault::Kind(Key::Version)),
-    }
-}
-
-/// The number at a place of an array.
-pub fn number_in(key: Key, i: usize, value: &Value) -> Result<u32, PlanFileFault>
-    ensures { result ≡ number_in key i (view value.now) }
-{
-    match value.get(i) {
-        Some(item) => number_of(key, item),
-        None => Err(PlanFileFault::Kind(key)),
-    }
-}
-
-/// The kappa at a place of an array, where the array is so long.
-pub fn optional_kappa_in(key: Key, i: usize, value: &Value) -> Result<Option<u64>, PlanFileFault>
-    ensures value { result ≡ optional_kappa key (at i (view value.now)) }
-    ensures fits { IfOk result (λ o. IfSome o (λ kappa. kappa < 2 ^ 62)) }
-{
-    match value.get(i) {
-        Some(item) => Ok(Some(kappa_of(key, item)?)),
-        None => Ok(None),
     }
 }
 

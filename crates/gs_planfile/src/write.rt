@@ -123,7 +123,12 @@ fn span_value(alloc: Global, span: &EdgeSpan) -> Result<Value, AllocError>
     ensures view { IfOk result (λ v. view v ≡ span_data span.now) }
     ensures fits { OnOk result (SpanFits span.now) }
 {
-    let mut items = vec![in alloc; integer(span.a), integer(span.b), integer(span.delay_min), integer(span.delay_max)]?;
+    let mut items = vec![in alloc;
+        integer(span.a),
+        integer(span.b),
+        integer(span.delay_min),
+        integer(span.delay_max),
+    ]?;
     if let Some(kappa) = span.kappa {
         items.push(Value::Integer(kappa as i64))?;
     }

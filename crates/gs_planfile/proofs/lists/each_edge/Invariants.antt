@@ -1,6 +1,6 @@
 use Rattle.std.proofs.Common.{◌≡◌, drop, map}
 use Rattle.toml.specs.View.{view}
-use Rattle.gs_planfile.specs.Values.{each, edge_of}
+use Rattle.gs_planfile.specs.Lists.{each, edge_of}
 use Rattle.gs_planfile.proofs.Views.{after}
 use Rattle.gs_planfile.proofs.lists.each_edge.Given as goal
 

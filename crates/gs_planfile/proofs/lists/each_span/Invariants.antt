@@ -1,7 +1,7 @@
 use Rattle.std.proofs.Common.{◌≡◌, All, drop, map}
 use Rattle.toml.specs.View.{view}
 use Rattle.gs_planfile.specs.Texts.{KappaFits}
-use Rattle.gs_planfile.specs.Values.{each, span_of}
+use Rattle.gs_planfile.specs.Lists.{each, span_of}
 use Rattle.gs_planfile.proofs.Views.{after}
 use Rattle.gs_planfile.proofs.lists.each_span.Given as goal
 
