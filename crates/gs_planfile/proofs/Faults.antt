@@ -28,14 +28,17 @@ is_of_keys _ = false
 abbrev pub AtKeys : {A : Type 0} → Result A PlanFileFault → Type 0
 AtKeys r = IfErr r (λ e. is_of_keys e ≡ true)
 
+-- two steps
 chain : {A B : Type 0} (r : Result A PlanFileFault) (next : A → Result B PlanFileFault) → AtKeys r → ((x : A) → AtKeys (next x)) → AtKeys (r >>= next)
 chain (Ok x) next a b = b x
 chain (Err e) next a b = a
 
+-- a test
 choice : {A : Type 0} (b : Bool) (r s : Result A PlanFileFault) → AtKeys r → AtKeys s → AtKeys (if b then r else s)
 choice true r s a b = a
 choice false r s a b = b
 
+-- each reading in turn, from one value to the whole document
 number_of-faults : (k : Key) (d : Data) → AtKeys (number_of k d)
 number_of-faults k (integer (pos n)) = choice (nat_lt n (2 ^ 32)) (Ok n) (Err (Range k)) tt refl
 number_of-faults k (integer (negsuc n)) = refl

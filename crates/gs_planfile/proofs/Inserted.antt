@@ -12,14 +12,17 @@ use Rattle.toml.specs.Data.{Data, Members, no_members, member, get_member, same_
 use Rattle.gs_planfile.specs.Extra.{names}
 use Rattle.gs_planfile.specs.Writing.{insert_member}
 
+-- a look-up goes past a key of another name
 skip : (o : Ordering) (rest : Option Data) (d : Data) → is_eq o ≡ false → match_ordering o rest (Some d) rest ≡ rest
 skip Less rest d h = refl
 skip Equal rest d h = cc h
 skip Greater rest d h = refl
 
+-- whatever that key holds
 both_skip : (o : Ordering) (rest : Option Data) (d e : Data) → is_eq o ≡ false → match_ordering o rest (Some d) rest ≡ match_ordering o rest (Some e) rest
 both_skip o rest d e h = skip o rest d h ∙ sym (skip o rest e h)
 
+-- two names with the same bytes compare alike
 alike : (k l m : List ℕ) → slice_cmp nat_cmp l m ≡ Equal → slice_cmp nat_cmp k l ≡ slice_cmp nat_cmp k m
 alike k l m e = nat_list_cmp_total.antisymm k l ∙ ap ordering_reverse (nat_list_cmp_total.congr l m k e) ∙ sym (nat_list_cmp_total.antisymm k m)
 
@@ -48,6 +51,7 @@ any-insert p k d (member m e ms) a b = by (slice_cmp nat_cmp k m) (p m) refl b (
     by Equal false q h ih = rw q h
     by Greater false q h ih = rw q (ih h)
 
+-- what compares as equal is equal
 equal_of : (o : Ordering) → is_eq o ≡ true → o ≡ Equal
 equal_of Less h = cc h
 equal_of Equal h = refl
@@ -73,6 +77,7 @@ get-insert k l d ms = by (same_key k l) refl
     by true q = get-insert_alike k l d ms (equal_of (slice_cmp nat_cmp k l) q)
     by false q = get-insert_other k l d ms q
 
+-- the members of the entries that a comparison chooses
 members_match : (o : Ordering) (a b c : List (String Global × Value)) → members_view (match_ordering o a b c) ≡ match_ordering o (members_view a) (members_view b) (members_view c)
 members_match Less a b c = refl
 members_match Equal a b c = refl

@@ -28,13 +28,14 @@ unless : (b : Bool) {x y : Option Data} → (b ≡ false → x ≡ y) → x ≡ 
 unless true h = refl
 unless false h = h refl
 
--- what a key keeps where another may be left out
+-- what a key of another name holds once a kappa was put
 get-put_kappa : (k : List ℕ) (o : Option ℕ) (ms : Members)
     → get_member k (put_kappa o ms) ≡ (if same_key k (codes "kappa") then get_member k (put_kappa o ms) else get_member k ms)
 unfolding put_kappa
 get-put_kappa k None ms = unless (same_key k (codes "kappa")) (λ other. refl)
 get-put_kappa k (Some n) ms = unless (same_key k (codes "kappa")) (λ other. rw (get-insert, other))
 
+-- what a key of another name holds once spans were put
 get-put_spans : (k : List ℕ) (spans : List EdgeSpan) (ms : Members)
     → get_member k (put_spans spans ms) ≡ (if same_key k (codes "spans") then get_member k (put_spans spans ms) else get_member k ms)
 unfolding put_spans
@@ -44,7 +45,7 @@ get-put_spans k spans ms = unless (same_key k (codes "spans")) (λ other. by (le
     by true other = refl
     by false other = rw (get-insert, other)
 
--- what a key that is none of a shape's keeps
+-- what a key that is none of a shape's holds once a shape was put
 get-put_shape : (k : List ℕ) (s : Shape) (ms : Members) → get_member k (put_shape s ms)
     ≡ (if same_key k (codes "topology") then get_member k (put_shape s ms) else if same_key k (codes "nodes") then get_member k (put_shape s ms)
     else if same_key k (codes "rows") then get_member k (put_shape s ms) else if same_key k (codes "cols") then get_member k (put_shape s ms)
@@ -65,9 +66,11 @@ ruleset gets = (get-insert, get-put_kappa, get-put_spans, get-put_shape)
 number_back : (k : Key) (n : ℕ) (ms : Members) → value_at k ms ≡ Some (integer (pos n)) → n < 2 ^ 32 → number_at k ms ≡ Ok n
 number_back k n ms there fits = rw (there, lt-ltb n (2 ^ 32) fits)
 
+-- the same where the key may be left out
 number_or_back : (otherwise : ℕ) (k : Key) (n : ℕ) (ms : Members) → value_at k ms ≡ Some (integer (pos n)) → n < 2 ^ 32 → number_or otherwise k ms ≡ Ok n
 number_or_back otherwise k n ms there fits = rw (there, lt-ltb n (2 ^ 32) fits)
 
+-- each key of the written table says what the text says
 version_back : (t : PlanText) → version_at (written t) ≡ Ok version.Two
 version_back t = simp gets
 
@@ -118,11 +121,12 @@ kappa_back t h =
     let none : get_member (codes "kappa") (put_times t (put_rates t (put_shape t.shape (put_number key.Cluster t.cluster (put_number key.Version 2 no_members))))) ≡ None = simp (get-insert, get-put_shape) in
     simp (get-insert, get-put_spans) (kappa_from t.kappa _ h.kappa none)
 
--- edges read back
+-- every written edge has its form
 edges_formed : (es : List (ℕ × ℕ)) → list_all is_edge (values (items_of (map edge_data es))) ≡ true
 edges_formed [] = refl
 edges_formed (e ∷ es) = edges_formed es
 
+-- and each reads back
 each_edge_back : (es : List (ℕ × ℕ)) → AllByRecursion EdgeFits es → each edge_of (values (items_of (map edge_data es))) ≡ Ok es
 each_edge_back [] h = refl
 each_edge_back (e ∷ es) h = rw (lt-ltb _ _ h.0.0, lt-ltb _ _ h.0.1, each_edge_back es h.1)
@@ -130,7 +134,7 @@ each_edge_back (e ∷ es) h = rw (lt-ltb _ _ h.0.0, lt-ltb _ _ h.0.1, each_edge_
 edges_back : (es : List (ℕ × ℕ)) → AllByRecursion EdgeFits es → edges_of (edges_data es) ≡ Ok es
 edges_back es h = rw (edges_formed es, each_edge_back es h)
 
--- spans read back
+-- a written span has its form
 span_formed : (s : EdgeSpan) → is_span (span_data s) ≡ true
 span_formed s = by s.kappa
   where
@@ -138,25 +142,31 @@ span_formed s = by s.kappa
     by None = refl
     by (Some kappa) = refl
 
+-- its fifth integer reads back, or its absence
 fifth_back : (o : Option ℕ) → IfSome o (λ kappa. kappa < 2 ^ 62) → optional_kappa key.Spans (get_item 0 (kappa_items o)) ≡ Ok o
 fifth_back None h = refl
 fifth_back (Some kappa) h = rw (lt-ltb _ _ h)
 
+-- a written span reads back
 span_back : (s : EdgeSpan) → SpanFits s → span_of (span_data s) ≡ Ok s
 unfolding span_of
 span_back s h = rw (lt-ltb _ _ h.0, lt-ltb _ _ h.1, lt-ltb _ _ h.2, lt-ltb _ _ h.3, fifth_back s.kappa h.4)
 
+-- every written span has its form
 spans_formed : (ss : List EdgeSpan) → list_all is_span (values (items_of (map span_data ss))) ≡ true
 spans_formed [] = refl
 spans_formed (s ∷ ss) = rw (span_formed s) (spans_formed ss)
 
+-- and each reads back
 each_span_back : (ss : List EdgeSpan) → AllByRecursion SpanFits ss → each span_of (values (items_of (map span_data ss))) ≡ Ok ss
 each_span_back [] h = refl
 each_span_back (s ∷ ss) h = rw (span_back s h.0, each_span_back ss h.1)
 
+-- a list with an item is not empty
 filled : (s : EdgeSpan) (ss : List EdgeSpan) → (length (s ∷ ss) == 0) ≡ false
 filled s ss = grind arith
 
+-- spans are read where they were put, and none where they were left out
 spans_from : (ss : List EdgeSpan) (ms : Members) → AllByRecursion SpanFits ss → get_member (codes "spans") ms ≡ None
     → spans_at version.Two (put_spans ss ms) ≡ Ok ss
 unfolding put_spans
@@ -187,12 +197,15 @@ shape_back t h =
     shape_from t.shape (put_number key.Cluster t.cluster (put_number key.Version 2 no_members)) (written t) h.shape
     (simp above_shape) (simp above_shape) (simp above_shape) (simp above_shape) (simp above_shape)
 
+-- a name that this shape does not take in version 2
 abbrev refused : Shape → List ℕ → Bool
 refused s name = not (is_allowed version.Two s name)
 
+-- no key stands there that the shape does not take
 abbrev NoExtra : Shape → Members → Type 0
 NoExtra s ms = has_extra version.Two s ms ≡ false
 
+-- a key that the shape takes may be put
 add : (s : Shape) (k : Key) (d : Data) (ms : Members) → refused s (key_name k) ≡ false → NoExtra s ms → NoExtra s (put k d ms)
 add s k d ms a h = any-insert (refused s) (key_name k) d ms a h
 
@@ -261,9 +274,11 @@ plan_back t h =
       extra_back t,
     )
 
+-- no deeper than a document may be
 abbrev IsFlat : Members → Type 0
 IsFlat ms = members_depth ms ≤ 80
 
+-- a flat value may be put
 flat : (k : List ℕ) (d : Data) (ms : Members) → depth d ≤ 80 → IsFlat ms → IsFlat (insert_member k d ms)
 unfolding insert_member
 flat k d no_members a b = omega (arith, a)
@@ -282,6 +297,7 @@ unfolding put_kappa
 kappa_flat None ms h = h
 kappa_flat (Some n) ms h = number key.Kappa n ms h
 
+-- an edge is one array deep, and a span as well
 edges_shallow : (es : List (ℕ × ℕ)) → items_depth (items_of (map edge_data es)) ≤ 1
 edges_shallow [] = omega arith
 edges_shallow (e ∷ es) = omega (arith, edges_shallow es)

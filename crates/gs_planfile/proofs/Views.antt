@@ -21,22 +21,28 @@ values-view : (vs : List Value) → values (items_view vs) ≡ map view vs
 values-view [] = refl
 values-view (v ∷ vs) = ap (λ ds. view v ∷ ds) (values-view vs)
 
+-- a test of every value of an array's view
 all-view : (p : Data → Bool) (vs : List Value) → list_all p (values (items_view vs)) ≡ list_all (λ v. p (view v)) vs
 all-view p vs = rw values-view (list_all-map p view vs)
 
+-- the length of an array's view
 length-view : (vs : List Value) → length (values (items_view vs)) ≡ length vs
 length-view [] = refl
 length-view (v ∷ vs) = ap (λ n. suc n) (length-view vs)
 
+-- an edge's form, in the code's values
 pub is_edge-array : (v : Vec Value Global) → is_edge (view (Array v)) ≡ ((length v.items == 2) && list_all (λ x. is_integer (view x)) v.items)
 is_edge-array v = rw (view-Array, length-view, all-view is_integer v.items)
 
+-- a span's form, in the code's values
 pub is_span-array : (v : Vec Value Global) → is_span (view (Array v)) ≡ (((length v.items == 4) || (length v.items == 5)) && list_all (λ x. is_integer (view x)) v.items)
 is_span-array v = rw (view-Array, length-view, all-view is_integer v.items)
 
+-- a list of edges, in the code's values
 pub edges_of-array : (v : Vec Value Global) → edges_of (view (Array v)) ≡ list_of key.Edges is_edge edge_of (map view v.items)
 edges_of-array v = rw (view-Array, values-view)
 
+-- a list of spans, in the code's values
 pub spans_of-array : (v : Vec Value Global) → spans_of (view (Array v)) ≡ list_of key.Spans is_span span_of (map view v.items)
 spans_of-array v = rw (view-Array, values-view)
 
@@ -49,10 +55,12 @@ abbrev pub after : {A : Type 0} → List A → Result (List A) PlanFileFault →
 after done (Ok xs) = Ok (done ++ xs)
 after done (Err e) = Err e
 
+-- before the first value
 after-nil : {A : Type 0} (r : Result (List A) PlanFileFault) → r ≡ after [] r
 after-nil (Ok xs) = refl
 after-nil (Err e) = refl
 
+-- one value more
 after-more : {A : Type 0} (done : List A) (x : A) (r : Result (List A) PlanFileFault) → after done (r >>= (λ xs. Ok (x ∷ xs))) ≡ after (done ++ x ∷ []) r
 after-more done x (Ok xs) = ap (λ ys. Ok ys) (sym (append_assoc done (x ∷ []) xs))
 after-more done x (Err e) = refl
@@ -85,10 +93,12 @@ any-view p (e ∷ es) = ap (λ b. p (string_bytes e.0) || b) (any-view p es)
 
 pub ruleset keys = (any-view)
 
+-- what is not true is false
 false_of : (b : Bool) → ¬ (b ≡ true) → b ≡ false
 false_of true h = absurd (h refl)
 false_of false h = refl
 
+-- the test fails where the bytes are not UTF-8
 pub is_utf8-false : (bs : List ℕ) → ¬ IsUtf8 bs → is_utf8 bs ≡ false
 is_utf8-false bs h = false_of (is_utf8 bs) (λ e. h (IsUtf8-from_is_utf8 bs e))
 

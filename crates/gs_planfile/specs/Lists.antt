@@ -16,6 +16,7 @@ abbrev pub values : Items → List Data
 values no_items = []
 values (item d ds) = d ∷ values ds
 
+-- an integer of any size
 abbrev pub is_integer : Data → Bool
 is_integer (integer z) = true
 is_integer _ = false
@@ -64,6 +65,7 @@ each read (d ∷ ds) = read d >>= (λ x. each read ds >>= (λ xs. Ok (x ∷ xs))
 abbrev pub list_of : {A : Type 0} → Key → (Data → Bool) → (Data → Result A PlanFileFault) → List Data → Result (List A) PlanFileFault
 list_of k has_form read ds = if list_all has_form ds then each read ds else Err (Kind k)
 
+-- what a value says as the list of edges, and as the list of spans
 abbrev pub edges_of : Data → Result (List (ℕ × ℕ)) PlanFileFault
 edges_of (array ds) = list_of Edges is_edge edge_of (values ds)
 edges_of _ = Err (Kind Edges)
@@ -72,6 +74,7 @@ abbrev pub spans_of : Data → Result (List EdgeSpan) PlanFileFault
 spans_of (array ds) = list_of Spans is_span span_of (values ds)
 spans_of _ = Err (Kind Spans)
 
+-- the edges, which a shape that lists them needs
 abbrev pub edges_at : Members → Result (List (ℕ × ℕ)) PlanFileFault
 edges_at ms = needed Edges edges_of (value_at Edges ms)
 

@@ -51,6 +51,7 @@ plan_in ms = do
     spans = spans;
   })
 
+-- a text that is no TOML document says nothing
 abbrev pub plan_of_document : Option Members → Result PlanText PlanFileFault
 plan_of_document None = Err Toml
 plan_of_document (Some ms) = plan_in ms

@@ -10,6 +10,7 @@ use Rattle.gs_planfile.specs.declared.text.Shape.TheVariants.{Line, Ring, Grid, 
 use Rattle.gs_planfile.specs.Lists.{edges_at}
 use Rattle.gs_planfile.specs.Values.{◌>>=◌, number_at, value_at}
 
+-- a line and a ring take the count of nodes
 abbrev pub line_at : Members → Result Shape PlanFileFault
 line_at ms = do
   nodes ← number_at Nodes ms
@@ -20,18 +21,21 @@ ring_at ms = do
   nodes ← number_at Nodes ms
   Ok (Ring nodes)
 
+-- a grid takes its rows and columns
 abbrev pub grid_at : Members → Result Shape PlanFileFault
 grid_at ms = do
   rows ← number_at Rows ms
   cols ← number_at Cols ms
   Ok (Grid rows cols)
 
+-- listed edges take the count of nodes and the list
 abbrev pub listed_at : Members → Result Shape PlanFileFault
 listed_at ms = do
   nodes ← number_at Nodes ms
   edges ← edges_at ms
   Ok (Edges nodes edges)
 
+-- the shape of a topology's name
 abbrev pub shape_named : List ℕ → Members → Result Shape PlanFileFault
 shape_named name ms =
     if bytes_eq name (codes "line") then line_at ms
@@ -40,6 +44,7 @@ shape_named name ms =
     else if bytes_eq name (codes "edges") then listed_at ms
     else Err (Range Topology)
 
+-- the topology is needed, and is a string
 abbrev pub shape_of : Option Data → Members → Result Shape PlanFileFault
 shape_of None ms = Err (Missing Topology)
 shape_of (Some (string name)) ms = shape_named name ms

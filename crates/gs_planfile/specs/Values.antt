@@ -60,6 +60,7 @@ number_at k ms = needed k (number_of k) (value_at k ms)
 abbrev pub number_or : ℕ → Key → Members → Result ℕ PlanFileFault
 number_or otherwise k ms = optional otherwise (number_of k) (value_at k ms)
 
+-- the version, which is needed, and the kappa, which is not
 abbrev pub version_at : Members → Result Version PlanFileFault
 version_at ms = needed key.Version version_of (value_at key.Version ms)
 

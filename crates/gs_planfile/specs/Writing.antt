@@ -20,6 +20,7 @@ insert_member name d no_members = member name d no_members
 insert_member name d (member other e ms) =
     match_ordering (slice_cmp nat_cmp name other) (member name d (member other e ms)) (member other d ms) (member other e (insert_member name d ms))
 
+-- members with the value of a key set
 abbrev pub put : Key → Data → Members → Members
 put k d ms = insert_member (key_name k) d ms
 
