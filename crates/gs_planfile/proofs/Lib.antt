@@ -1,0 +1,4 @@
+pub mod Views
+pub mod Inserted
+pub mod ReadBack
+pub mod Faults

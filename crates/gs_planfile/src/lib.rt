@@ -1,0 +1,18 @@
+//! Plan files: the TOML text in which an operator describes a network and its numbers, read to the
+//! plan's text or to the first fault, and written again in the newest version.
+#![tactic(auto)]
+
+pub use key::{Key, PlanFileFault};
+pub use read::read_plan;
+pub use text::{EdgeList, EdgeSpan, PlanText, Shape, Spans, Version, base};
+pub use write::migrate;
+
+mod key;
+mod lists;
+mod read;
+mod shape;
+#[cfg(test)]
+mod tests;
+mod text;
+mod values;
+mod write;
