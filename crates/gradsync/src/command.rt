@@ -17,16 +17,51 @@ pub enum Part {
 /// "Commands".
 #[derive(Clone, Copy, Debug, PartialEq, Eq)]
 pub enum Command<'w> {
-    Plan { plan: &'w str },
-    Play { plan: &'w str, script: &'w str, workers: u32 },
-    Trace { plan: &'w str, script: &'w str },
-    Audit { plan: &'w str, trace: &'w str },
-    Replay { plan: &'w str, node: u32, trace: &'w str },
-    Gen { number: u64, size: u32, part: Part },
-    Migrate { plan: &'w str },
-    Settle { plan: &'w str, script: &'w str, gamma: u64 },
-    Slots { plan: &'w str, script: &'w str, reach: u32, slot: u64 },
-    Order { plan: &'w str, script: &'w str, every: u32 },
+    Plan {
+        plan: &'w str,
+    },
+    Play {
+        plan: &'w str,
+        script: &'w str,
+        workers: u32,
+    },
+    Trace {
+        plan: &'w str,
+        script: &'w str,
+    },
+    Audit {
+        plan: &'w str,
+        trace: &'w str,
+    },
+    Replay {
+        plan: &'w str,
+        node: u32,
+        trace: &'w str,
+    },
+    Gen {
+        number: u64,
+        size: u32,
+        part: Part,
+    },
+    Migrate {
+        plan: &'w str,
+    },
+    Settle {
+        plan: &'w str,
+        script: &'w str,
+        gamma: u64,
+    },
+    Slots {
+        plan: &'w str,
+        script: &'w str,
+        reach: u32,
+        slot: u64,
+    },
+    Order {
+        plan: &'w str,
+        script: &'w str,
+        every: u32,
+    },
 }
 
 /// The command that the words of a command line spell.

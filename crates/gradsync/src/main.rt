@@ -4,19 +4,18 @@
 use crate::status::Status;
 use crate::tool::run_tool;
 use gs_io::{OsFiles, PlainGate, StdSink};
+use std::env;
 use std::io::{self, ErrorKind};
 use std::process::ExitCode;
 use std::rt::Env;
-use std::env;
 
 mod command;
 mod pair;
 mod reply;
 mod status;
-mod tool;
-
 #[cfg(test)]
 mod tests;
+mod tool;
 
 /// The words behind the program's name.
 fn words(rt: &(impl Env + AllocGlobal)) -> io::Result<Vec<String>> {

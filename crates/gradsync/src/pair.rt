@@ -5,15 +5,16 @@ ghost use Rattle.std.specs.Prelude.{◌≡◌, ℕ, ◌+◌, ◌*◌, ◌/◌, �
 ghost use Rattle.gs_units.specs.Rates.{HasNumbers};
 ghost use Rattle.gradsync.specs.Pair.{pair_text, with_head, with_skew, with_level, next_bound};
 
-
 use gs_text::Lines;
 use gs_units::Rate;
 use std::alloc::{AllocError, Global};
 
-
 const TICK: u64 = 100;
+
 const AGE: u64 = 412;
+
 const DELAY_MIN: u64 = 2;
+
 const DELAY_MAX: u64 = 12;
 
 /// The greatest skew so far, in clock units, and the first quantum that has it.
@@ -45,7 +46,8 @@ fn first_bound(rate: &Rate) -> u64
     requires { HasNumbers 10000 10001 2000 rate.now }
     ensures { result ≡ 103125 }
 {
-    let lambda = (u64::from(rate.hi()) - rate.g()) * AGE + u64::from(rate.lo()) * (DELAY_MAX - DELAY_MIN);
+    let lambda = (u64::from(rate.hi()) - rate.g()) * AGE
+        + u64::from(rate.lo()) * (DELAY_MAX - DELAY_MIN);
     let iota = (rate.top() - u64::from(rate.lo())) * TICK + 1;
     lambda + iota + rate.r() * TICK
 }

@@ -48,7 +48,11 @@ fn each_line_of_words_has_its_status_and_text(rt: HostRuntime) -> Result<(), Fai
         ("gen 1 2 run", Status::Usage, USAGE),
         ("gen 1 3 dance", Status::Usage, USAGE),
         ("gen 18446744073709551616 3 plan", Status::Usage, USAGE),
-        ("settle base:2 steady:9 2305843009213693953", Status::Usage, USAGE),
+        (
+            "settle base:2 steady:9 2305843009213693953",
+            Status::Usage,
+            USAGE,
+        ),
         ("slots base:2 steady:9 4294967296 1", Status::Usage, USAGE),
         ("order base:2 steady:9 0", Status::Usage, USAGE),
         ("order base:2 steady:9 1048577", Status::Usage, USAGE),
@@ -59,15 +63,47 @@ fn each_line_of_words_has_its_status_and_text(rt: HostRuntime) -> Result<(), Fai
         ("trace base:2 steady:9", Status::Unbuilt, "not built\n"),
         ("audit base:2 t", Status::Unbuilt, "not built\n"),
         ("replay base:2 4294967295 t", Status::Unbuilt, "not built\n"),
-        ("gen 18446744073709551615 512 script", Status::Unbuilt, "not built\n"),
+        (
+            "gen 18446744073709551615 512 script",
+            Status::Unbuilt,
+            "not built\n",
+        ),
         ("migrate p.toml", Status::Unbuilt, "not built\n"),
-        ("settle base:2 steady:9 2305843009213693952", Status::Unbuilt, "not built\n"),
-        ("slots base:2 steady:9 4294967295 18446744073709551615", Status::Unbuilt, "not built\n"),
-        ("order base:2 steady:9 1048576", Status::Unbuilt, "not built\n"),
-        ("play base:2 steady:x 1", Status::InputRefused, "script refused: number 1\n"),
-        ("play base:2 steady: 1", Status::InputRefused, "script refused: number 1\n"),
-        ("play base:2 steady:18446744073709551616 1", Status::InputRefused, "script refused: number 1\n"),
-        ("play base:2 steady:1048577 1", Status::InputRefused, "script refused: large\n"),
+        (
+            "settle base:2 steady:9 2305843009213693952",
+            Status::Unbuilt,
+            "not built\n",
+        ),
+        (
+            "slots base:2 steady:9 4294967295 18446744073709551615",
+            Status::Unbuilt,
+            "not built\n",
+        ),
+        (
+            "order base:2 steady:9 1048576",
+            Status::Unbuilt,
+            "not built\n",
+        ),
+        (
+            "play base:2 steady:x 1",
+            Status::InputRefused,
+            "script refused: number 1\n",
+        ),
+        (
+            "play base:2 steady: 1",
+            Status::InputRefused,
+            "script refused: number 1\n",
+        ),
+        (
+            "play base:2 steady:18446744073709551616 1",
+            Status::InputRefused,
+            "script refused: number 1\n",
+        ),
+        (
+            "play base:2 steady:1048577 1",
+            Status::InputRefused,
+            "script refused: large\n",
+        ),
     ] {
         let (answered, written) = run(&rt, line, &[])?;
         assert_eq!(rt; answered, status, "of {line:?}");

@@ -34,9 +34,7 @@ pub fn run_tool<F: Files, K: Sink, G: Gate>(
     _gate: &G,
 ) -> Status
     // All of the answer, or a front of it where the sink failed or memory was short.
-    ensures gives {
-        Gives (answer_of (map string_bytes words.now)) (K.bytes out.old) (K.bytes out.new) (K.faults out.old) (K.faults out.new) result
-    }
+    ensures gives { Gives (answer_of (map string_bytes words.now)) (K.bytes out.old) (K.bytes out.new) (K.faults out.old) (K.faults out.new) result }
 
     // Words that are no command need no memory.
     ensures usage { command_of (map string_bytes words.now) ≡ None → (result ≡ Status.Usage) ⊎ (result ≡ Status.WriteFault) }
@@ -54,11 +52,13 @@ fn answer(alloc: Global, words: &[String]) -> Result<Reply, AllocError>
 {
     match command::command_of(words) {
         None => Ok(Reply::Line(Status::Usage, USAGE)),
-        Some(Command::Play {
-            plan,
-            script,
-            workers,
-        }) => play(alloc, plan, script, workers),
+        Some(
+            Command::Play {
+                plan,
+                script,
+                workers,
+            },
+        ) => play(alloc, plan, script, workers),
         Some(_) => Ok(Reply::Line(Status::Unbuilt, UNBUILT)),
     }
 }
