@@ -1,5 +1,5 @@
-use Rattle.std.proofs.Common.{◌≡◌, ℕ, List, ◌++◌, Option, Some, None, refl, sym, ap, length, take}
-use Rattle.gs_io.specs.Held.{Appends, AppendsFront}
+use Rattle.std.proofs.Common.{ℕ, List, Option, Some, None, refl, sym, ap}
+use Rattle.gs_io.specs.Held.{AppendsFront}
 use Rattle.std.proofs.lemmas.List.{append-nil}
 
 -- nothing is a front of any text

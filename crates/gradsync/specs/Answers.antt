@@ -1,9 +1,9 @@
-use Rattle.std.specs.Prelude.{◌≡◌, ℕ, ◌^◌, ◌&&◌, ◌==◌, ◌⊎◌, Bool, List, [], ◌∷◌, ◌++◌, Option, Some, None, nat_le, if◌then◌else◌, codes, take, drop}
+use Rattle.std.specs.Prelude.{◌≡◌, ℕ, ◌&&◌, ◌==◌, ◌⊎◌, List, [], ◌∷◌, ◌++◌, Option, Some, None, nat_le, if◌then◌else◌, codes, take, drop}
 use Rattle.std.specs.Str.{bytes_eq}
 use Rattle.gs_io.specs.Causes.{Rose}
 use Rattle.gs_io.specs.Held.{Appends, AppendsFront}
 use Rattle.gs_text.specs.Numbers.{number_of}
-use Rattle.gradsync.specs.Commands.{Command, Plan, Play, Trace, Audit, Replay, Gen, Migrate, Settle, Slots, Order, command_of}
+use Rattle.gradsync.specs.Commands.{Command, Play, command_of}
 use Rattle.gradsync.specs.Pair.{pair_text}
 use Rattle.gradsync.specs.declared.status.Status.{Status}
 use Rattle.gradsync.specs.declared.status.Status.TheVariants.{Done, Usage, InputRefused, WriteFault, OutOfMemory, Unbuilt}

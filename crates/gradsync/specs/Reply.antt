@@ -1,5 +1,4 @@
-use Rattle.std.specs.Prelude.{ℕ, List, [], ◌∷◌, ◌++◌}
-use Rattle.gradsync.specs.Answers.{Answer, line}
+use Rattle.gradsync.specs.Answers.{Answer}
 use Rattle.gradsync.specs.declared.reply.Reply.{Reply}
 use Rattle.gradsync.specs.declared.reply.Reply.TheVariants.{Line, Text}
 
