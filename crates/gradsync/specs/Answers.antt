@@ -54,15 +54,6 @@ abbrev pub answer_play : Option (List ℕ) → Answer
 answer_play None = unbuilt
 answer_play (Some count) = played (number_of count)
 
-abbrev pub answer_to : Option Command → Answer
-answer_to None = usage
-answer_to (Some (Play plan script workers)) = answer_play (pair_count plan script workers)
-answer_to (Some _) = unbuilt
-
--- What answers the words of a command line.
-abbrev pub answer_of : List (List ℕ) → Answer
-answer_of words = answer_to (command_of words)
-
 -- all of the answer was written
 abbrev pub IsWhole : Answer → Option (List ℕ) → Option (List ℕ) → Status → Type 0
 IsWhole answer old new status = (status ≡ answer.status) × Appends old new answer.text
@@ -71,11 +62,6 @@ IsWhole answer old new status = (status ≡ answer.status) × Appends old new an
 abbrev pub IsCut : Answer → Option (List ℕ) → Option (List ℕ) → ℕ → ℕ → Status → Type 0
 IsCut answer old new before after status = (status ≡ WriteFault) × AppendsFront old new answer.text × Rose before after
 
--- there was not enough memory, and the sink has a front of the answer
-abbrev pub IsStarved : Answer → Option (List ℕ) → Option (List ℕ) → Status → Type 0
-IsStarved answer old new status = (status ≡ OutOfMemory) × AppendsFront old new answer.text
-
--- What a run does to its sink, of which `old` and `new` are the bytes and `before` and `after` the counts of faults.
+-- What writing an answer does to a sink, of which `old` and `new` are the bytes and `before` and `after` the counts of faults.
 abbrev pub Gives : Answer → Option (List ℕ) → Option (List ℕ) → ℕ → ℕ → Status → Type 0
-Gives answer old new before after status =
-    IsWhole answer old new status ⊎ IsCut answer old new before after status ⊎ IsStarved answer old new status
+Gives answer old new before after status = IsWhole answer old new status ⊎ IsCut answer old new before after status

@@ -1,6 +1,14 @@
 pub mod Answers
 pub mod Commands
+pub mod GivenSeen
 pub mod Meaning
 pub mod Pair
+pub mod PlanTexts
+pub mod Plans
+pub mod ReadSeen
+pub mod Reading
+pub mod Refusals
 pub mod Reply
+pub mod Runs
 pub mod Statuses
+pub mod Stops

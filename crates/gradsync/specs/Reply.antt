@@ -1,8 +1,10 @@
 use Rattle.gradsync.specs.Answers.{Answer}
+use Rattle.gradsync.specs.declared.status.Status.TheVariants.{Done}
 use Rattle.gradsync.specs.declared.reply.Reply.{Reply}
-use Rattle.gradsync.specs.declared.reply.Reply.TheVariants.{Line, Text}
+use Rattle.gradsync.specs.declared.reply.Reply.TheVariants.{Line, Text, File}
 
 -- the answer that a reply stands for
 abbrev pub answer_in : Reply → Answer
 answer_in (Line status words) = record { status = status; text = words.now }
 answer_in (Text status lines) = record { status = status; text = lines }
+answer_in (File bytes) = record { status = Done; text = bytes.items }

@@ -10,7 +10,12 @@ use std::process::ExitCode;
 use std::rt::Env;
 
 mod command;
+mod given;
 mod pair;
+mod plan_text;
+mod plans;
+mod reading;
+mod refusal;
 mod reply;
 mod status;
 #[cfg(test)]

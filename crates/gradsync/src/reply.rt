@@ -12,21 +12,24 @@ pub enum Reply {
     Line(Status, &'static str),
     /// A text of whole lines.
     Text(Status, Lines),
+    /// A file, which is written as one piece.
+    File(Vec<u8>),
 }
 
 impl Reply {
     ghost use Rattle.gradsync.specs.Reply.{answer_in};
 
-    /// Writes all of it, one line a write, and answers its status; `WriteFault` where a write fails.
+    /// Writes all of it, a text one line a write, and answers its status; `WriteFault` where a write
+    /// fails.
     pub fn write<K: Sink>(&self, out: &mut K) -> Status
-        ensures gives { Gives (answer_in self.now) (K.bytes out.old) (K.bytes out.new) (K.faults out.old) (K.faults out.new) result }
-        ensures no_memory { (result ≡ (answer_in self.now).status) ⊎ (result ≡ Status.WriteFault) }
+        ensures { Gives (answer_in self.now) (K.bytes out.old) (K.bytes out.new) (K.faults out.old) (K.faults out.new) result }
     {
-        let (status, text) = match self {
-            Reply::Line(status, line) => (*status, line.as_bytes()),
-            Reply::Text(status, text) => (*status, text.bytes()),
+        let (status, written) = match self {
+            Reply::Line(status, line) => (*status, gs_io::write_lines(out, line.as_bytes())),
+            Reply::Text(status, text) => (*status, gs_io::write_lines(out, text.bytes())),
+            Reply::File(bytes) => (Status::Done, out.write(bytes)),
         };
-        match gs_io::write_lines(out, text) {
+        match written {
             Ok(()) => status,
             Err(Failed) => Status::WriteFault,
         }

@@ -1,11 +1,15 @@
 ghost use Rattle.std.specs.Prelude.{◌≡◌, ◌⊎◌, map, string_bytes, option_map, None, IsOk, IfOk};
 ghost use Rattle.gs_text.specs.Numbers.{number_of};
 ghost use Rattle.gradsync.specs.Commands.{command_of};
-ghost use Rattle.gradsync.specs.Answers.{answer_of, answer_play, played, reported, pair_count, steady_count, Gives};
+ghost use Rattle.gradsync.specs.Answers.{answer_play, played, reported, pair_count, steady_count};
+ghost use Rattle.gradsync.specs.Plans.{Given, IsGiven, IsMigrated, plan_from, planned};
+ghost use Rattle.gradsync.specs.Runs.{IsAnswer, Runs};
 ghost use Rattle.gradsync.specs.Reply.{answer_in};
 
 use crate::command::{self, Command};
+use crate::given::plan_given;
 use crate::pair;
+use crate::plans;
 use crate::reply::Reply;
 use crate::status::Status;
 use gs_io::{Files, Gate, Sink};
@@ -23,43 +27,69 @@ const TOO_LARGE: &str = "script refused: large\n";
 /// The most quanta that a script may have.
 const MOST_QUANTA: u64 = 1_048_576;
 
-#[tactic(auto, using(crate::proofs::Fronts::nothing_is_front))]
-/// Does what the words of a command line ask for, and writes the answer to `out`, one line a write.
-/// It waits for nobody. See `docs/FORMATS.md`, "Commands", "Statuses" and "Fault lines".
+/// Does what the words of a command line ask for, and writes the answer to `out`, a text one line a
+/// write. It waits for nobody. See `docs/FORMATS.md`, "Commands", "Statuses" and "Fault lines".
 pub fn run_tool<F: Files, K: Sink, G: Gate>(
     alloc: Global,
     words: &[String],
-    _files: &mut F,
+    files: &mut F,
     out: &mut K,
     _gate: &G,
 ) -> Status
-    // All of the answer, or a front of it where the sink failed or memory was short.
-    ensures gives { Gives (answer_of (map string_bytes words.now)) (K.bytes out.old) (K.bytes out.new) (K.faults out.old) (K.faults out.new) result }
+    ensures runs {
+        Runs (record { content = F.content files.old; before = F.faults files.old; after = F.faults files.new }) (map string_bytes words.now) (K.bytes out.old) (K.bytes out.new) (K.faults out.old) (K.faults out.new) result
+    }
 
     // Words that are no command need no memory.
     ensures usage { command_of (map string_bytes words.now) ≡ None → (result ≡ Status.Usage) ⊎ (result ≡ Status.WriteFault) }
 {
-    match answer(alloc, words) {
+    match answer(alloc, words, files) {
         Ok(reply) => reply.write(out),
         Err(AllocError) => Status::OutOfMemory,
     }
 }
 
 /// The answer to the words of a command line.
-fn answer(alloc: Global, words: &[String]) -> Result<Reply, AllocError>
-    ensures reply { IfOk result (λ reply. answer_in reply ≡ answer_of (map string_bytes words.now)) }
-    ensures usage { command_of (map string_bytes words.now) ≡ None → IsOk result }
+fn answer<F: Files>(alloc: Global, words: &[String], files: &mut F) -> Result<Reply, AllocError>
+    ensures reply {
+        IfOk result (λ reply. IsAnswer (record { content = F.content files.old; before = F.faults files.old; after = F.faults files.new }) (map string_bytes words.now) (answer_in reply))
+    }
+    ensures usage { command_of (map string_bytes words.now) ≡ None → IfOk result (λ reply. (answer_in reply).status ≡ Status.Usage) × IsOk result }
 {
     match command::command_of(words) {
         None => Ok(Reply::Line(Status::Usage, USAGE)),
-        Some(
-            Command::Play {
-                plan,
-                script,
-                workers,
-            },
-        ) => play(alloc, plan, script, workers),
+        Some(Command::Plan { plan }) => plan_answer(alloc, plan, files),
+        Some(Command::Migrate { plan }) => migrate_answer(alloc, plan, files),
+        Some(Command::Play {
+            plan,
+            script,
+            workers,
+        }) => play(alloc, plan, script, workers),
         Some(_) => Ok(Reply::Line(Status::Unbuilt, UNBUILT)),
+    }
+}
+
+/// The answer to `plan PLAN`.
+fn plan_answer<F: Files>(alloc: Global, word: &str, files: &mut F) -> Result<Reply, AllocError>
+    ensures {
+        IfOk result (λ reply. (given : Given) × IsGiven (F.content files.old) (F.faults files.old) (F.faults files.new) word.now given × (answer_in reply ≡ planned (plan_from given)))
+    }
+{
+    match plan_given(alloc, files, word) {
+        Ok(given) => plans::planned(alloc, &given),
+        Err(error) => Err(error),
+    }
+}
+
+/// The answer to `migrate PLAN`.
+fn migrate_answer<F: Files>(alloc: Global, word: &str, files: &mut F) -> Result<Reply, AllocError>
+    ensures {
+        IfOk result (λ reply. (given : Given) × IsGiven (F.content files.old) (F.faults files.old) (F.faults files.new) word.now given × IsMigrated (plan_from given) (answer_in reply))
+    }
+{
+    match plan_given(alloc, files, word) {
+        Ok(given) => plans::migrated(alloc, &given),
+        Err(error) => Err(error),
     }
 }
 
