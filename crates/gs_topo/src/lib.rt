@@ -1,0 +1,18 @@
+//! Topologies.
+#![tactic(auto)]
+
+pub use fault::TopoFault;
+pub use laws::{distances_are_metric, least_sums_weigh};
+pub use topology::{MAX_EDGES, MAX_NODES, Topology};
+
+mod build;
+mod fault;
+mod flags;
+mod laws;
+mod levels;
+mod lists;
+mod search;
+mod steps;
+#[cfg(test)]
+mod tests;
+mod topology;
