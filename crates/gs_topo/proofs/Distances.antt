@@ -1,13 +1,13 @@
-use Rattle.std.proofs.Common.{◌≡◌, ◌≢◌, ℕ, zero, suc, ◌+◌, ◌-◌, ◌*◌, ◌<◌, ◌≤◌, ◌⊎◌, ◌&&◌, ◌||◌, ◌==◌, inl, inr, arith, ap, sym, refl, ◌∙◌, subst, List, [], ◌∷◌, ◌++◌, length, Bool, true, false, IsTrue, Option, Some, None, is_some, unwrap_or, if◌then◌else◌, eqb, ltb, cond}
-use Rattle.std.specs.List.{Contains, range_with_len, list_any}
-use Rattle.std.proofs.lemmas.Bool.{cases_eq, cases_lt, cases_order, eqb-true, eq-eqb, and_parts, and_from, cases_Bool, false_from_ne_true, le-ltb, lt-ltb, or_cases, or_left, or_right}
+use Rattle.std.proofs.Common.{◌≡◌, ◌≢◌, ℕ, zero, suc, ◌+◌, ◌-◌, ◌<◌, ◌≤◌, ◌⊎◌, ◌&&◌, ◌==◌, inl, inr, arith, ap, sym, refl, ◌∙◌, List, [], ◌∷◌, ◌++◌, Bool, true, false, Some, None, ltb, cond}
+use Rattle.std.specs.List.{range_with_len}
+use Rattle.std.proofs.lemmas.Bool.{cases_eq, cases_lt, eqb-true, eq-eqb, and_parts, and_from, cases_Bool, false_from_ne_true, le-ltb, lt-ltb, or_cases, or_left, or_right}
 use Rattle.std.proofs.lemmas.List.Elements.{All-contains}
 use Rattle.gs_topo.specs.Graph.{Graph, adjacent, Adjacent, joins, joined}
 use Rattle.gs_topo.specs.Walks.{IsWalk, length_of, IsLeast, one_each, has_walk, least_from, distance_of, reaches}
 use Rattle.gs_topo.specs.Laws.{AreLeastSums, AreMetric}
 use Rattle.gs_topo.proofs.Weighing.{least_sums_weigh}
 use Rattle.gs_topo.proofs.Members.{Contains-range, range_below, list_any-from_member, member-from_list_any}
-use Rattle.gs_topo.proofs.Walks.{walk_append, length_of-append, turned, walk_ends, below_walks}
+use Rattle.gs_topo.proofs.Walks.{walk_append, length_of-append, below_walks}
 
 -- Distances by walks, of graphs in which walks lead everywhere.
 

@@ -10,3 +10,4 @@ pub mod Tables
 pub mod Ascending
 pub mod Sound
 pub mod Nearer
+pub mod LeastSums

@@ -1,7 +1,7 @@
-use Rattle.std.proofs.Common.{◌≡◌, ◌≢◌, ℕ, zero, suc, ◌+◌, ◌<◌, ◌≤◌, ◌⊎◌, ◌==◌, inl, inr, arith, ap, sym, refl, ◌∙◌, List, [], ◌∷◌, length, filter, cond, Bool, true, false, IsTrue, All, Option, Some, None, take, get_or, slice_index}
-use Rattle.std.specs.List.{Contains, range_with_len, list_any, position}
+use Rattle.std.proofs.Common.{◌≡◌, ◌≢◌, ℕ, zero, suc, ◌+◌, ◌<◌, ◌≤◌, ◌==◌, inl, inr, arith, sym, refl, ◌∙◌, List, [], ◌∷◌, length, filter, cond, Bool, true, false, All, Some, None, get_or, slice_index}
+use Rattle.std.specs.List.{range_with_len, position}
 use Rattle.std.proofs.lemmas.Bool.{cases_eq, cases_lt, eq-eqb, ne_eqb, lt-ltb, le-ltb}
-use Rattle.std.proofs.lemmas.List.Elements.{All-cons, All-filter, All-contains, All-weaker, filter_passes}
+use Rattle.std.proofs.lemmas.List.Elements.{All-filter, All-contains, All-weaker, filter_passes}
 use Rattle.std.proofs.lemmas.List.{get_or_default}
 use Rattle.std.proofs.lemmas.List.Sums.{position_or_len_is}
 use Rattle.gs_topo.specs.Graph.{Graph, Adjacent, adjacent, neighbours_of, joins}
@@ -9,7 +9,7 @@ use Rattle.gs_topo.specs.Laws.{AreLeastSums}
 use Rattle.gs_topo.specs.Walks.{IsCloser, IsGraph, IsWalk, length_of, distance_of, one_each}
 use Rattle.gs_topo.proofs.Members.{Contains-filter, Contains-range, member-from_list_any, range_below}
 use Rattle.gs_topo.proofs.Ascending.{joins-cases}
-use Rattle.gs_topo.proofs.Distances.{is_least, both_ways, are_metric}
+use Rattle.gs_topo.proofs.Distances.{is_least, both_ways}
 use Rattle.gs_topo.proofs.Weighing.{least_sums_weigh}
 
 -- Neighbours, and steps towards a node.

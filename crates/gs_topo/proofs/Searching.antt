@@ -1,15 +1,15 @@
-use Rattle.std.proofs.Common.{◌≡◌, ℕ, zero, suc, ◌+◌, ◌*◌, ◌<◌, ◌≤◌, ◌⊎◌, inl, inr, arith, ap, sym, refl, ◌∙◌, List, [], ◌∷◌, ◌++◌, length, Bool, true, false, IsTrue, slice_index, slice_index_or, All, ltb, if◌then◌else◌, filter, map, subst, replicate, get_or-set_same, get_or-set_other}
+use Rattle.std.proofs.Common.{◌≡◌, ℕ, ◌+◌, ◌<◌, ◌≤◌, ◌⊎◌, inl, inr, arith, ap, sym, refl, ◌∙◌, List, [], ◌∷◌, ◌++◌, length, Bool, true, false, IsTrue, slice_index, All, ltb, if◌then◌else◌, filter, replicate, get_or-set_same, get_or-set_other}
 use Rattle.std.specs.List.{Contains, range_with_len}
 use Rattle.std.proofs.Math.ListN.{length-set, length-replicate, set}
 use Rattle.std.proofs.lemmas.List.{get_or_past, get_or-replicate}
-use Rattle.std.proofs.lemmas.List.Elements.{All-head, All-tail, All-push, All-map, All-filter, All-contains, filter_passes, Contains-append_cases, Contains-get_or}
+use Rattle.std.proofs.lemmas.List.Elements.{All-head, All-tail, All-push, All-map, All-filter, All-contains, filter_passes}
 use Rattle.std.proofs.lemmas.Bool.{cases_eq, cases_lt}
 use Rattle.gs_topo.specs.Walks.{IsWalk, length_of}
-use Rattle.gs_topo.specs.Search.{Trial, tried, all_tried, far, steps_over, AreSteps, AreSums, AreInside}
+use Rattle.gs_topo.specs.Search.{Trial, tried, all_tried, far, steps_over, AreSums, AreInside}
 use Rattle.gs_topo.specs.declared.steps.Step.{Step}
 use Rattle.gs_topo.proofs.Walks.{walk_append, length_of-append}
-use Rattle.gs_topo.proofs.Relaxing.{IsTried, are_tried}
-use Rattle.gs_topo.proofs.Members.{Contains-filter, Contains-map, Contains-range, range_below, only, none, member_cases, head_member}
+use Rattle.gs_topo.proofs.Relaxing.{are_tried}
+use Rattle.gs_topo.proofs.Members.{Contains-filter, Contains-map, Contains-range, range_below, none, member_cases, head_member}
 
 -- what keeps each read of the search within its tables
 pub record IsWithin (n : ℕ) (t : Trial) : Type 0 where

@@ -1,23 +1,22 @@
-use Rattle.std.proofs.Common.{◌≡◌, ◌≢◌, ℕ, zero, suc, ◌+◌, ◌-◌, ◌*◌, ◌<◌, ◌≤◌, ◌⊎◌, ◌&&◌, ◌||◌, ◌==◌, nat_lt, not, inl, inr, arith, ap, sym, refl, ◌∙◌, List, [], ◌∷◌, ◌++◌, length, map, filter, cond, if◌then◌else◌, Bool, true, false, IsTrue, All, AllPairs, get_or, ltb, slice_index, Option, Some, None, eqb, option_map}
+use Rattle.std.proofs.Common.{◌≡◌, ◌≢◌, ℕ, ◌+◌, ◌*◌, ◌<◌, ◌≤◌, ◌&&◌, ◌==◌, nat_lt, not, inl, inr, arith, ap, sym, refl, ◌∙◌, List, [], ◌∷◌, ◌++◌, length, map, filter, cond, if◌then◌else◌, Bool, true, false, IsTrue, All, AllPairs, get_or, ltb, slice_index, Option, Some, None, eqb, option_map}
 use Rattle.std.specs.Option.{option_or}
-use Rattle.std.specs.List.{Contains, range_with_len, list_any, IsDistinct}
-use Rattle.std.proofs.lemmas.Bool.{cases_order, cases_eq, cases_lt, eq-eqb, ne_eqb, le-ltb, lt-ltb, false_from_ne_true, cond-true, cond-false}
+use Rattle.std.specs.List.{range_with_len, IsDistinct}
+use Rattle.std.proofs.lemmas.Bool.{eq-eqb, ne_eqb, le-ltb, lt-ltb, false_from_ne_true, cond-true, cond-false}
 use Rattle.std.proofs.lemmas.List.{get_or-map, length-map, get_or_default}
-use Rattle.std.proofs.lemmas.List.Elements.{All-cons, All-head, All-tail, All-nil, All-weaker, All-filter, All-contains, filter_passes, Contains-get_or}
+use Rattle.std.proofs.lemmas.List.Elements.{All-cons, All-head, All-tail, All-nil, All-weaker, All-filter, All-contains, filter_passes}
 use Rattle.std.proofs.lemmas.List.FromFn.{fill_by_all, length-map-range_with_len, get_or-map-range_with_len}
 use Rattle.std.proofs.lemmas.Map.Made.{length-le_from_is_member, is_member-Decides}
 use Rattle.std.proofs.lemmas.Map.Keys.{IsDistinct-from_apart}
 use Rattle.std.proofs.lemmas.Bool.Decides.{Decides-eqb}
 use Rattle.std.proofs.lemmas.Cmp.{nat_eq_equiv}
 use Rattle.std.proofs.lemmas.Nat.{same_from_place}
-use Rattle.gs_topo.specs.declared.fault.TopoFault.{TopoFault}
-use Rattle.gs_topo.specs.declared.fault.TopoFault.TheVariants.{Count, Edges, Node, Loop, Double, Split}
+use Rattle.gs_topo.specs.declared.fault.TopoFault.TheVariants.{Node, Loop, Double, Split}
 use Rattle.gs_topo.specs.declared.steps.Step.{Step}
 use Rattle.gs_topo.specs.Faults.{edge_fault, edges_fault, split_fault, fault_of}
 use Rattle.gs_topo.specs.Graph.{Graph, IsBefore, joins, joined, adjacent, Adjacent, neighbours_of, pairs_below, graph_of}
 use Rattle.gs_topo.specs.Kept.{HasFlags, flag_at}
 use Rattle.gs_topo.specs.Search.{AreSteps, AreSums, AreInside, steps_over, far}
-use Rattle.gs_topo.specs.Walks.{IsWalk, IsGraph, length_of, one_each, reaches, least_from}
+use Rattle.gs_topo.specs.Walks.{IsWalk, IsGraph, one_each, reaches}
 use Rattle.gs_topo.proofs.Members.{Contains-map, member-from_list_any, range_below}
 use Rattle.gs_topo.proofs.Walks.{walk_append, turned, below_walks}
 use Rattle.gs_topo.proofs.Searching.{each_step}

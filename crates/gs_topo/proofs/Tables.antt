@@ -1,12 +1,12 @@
-use Rattle.std.proofs.Common.{◌≡◌, ℕ, zero, suc, ◌+◌, ◌*◌, max, fold, length-append, ◌<◌, ◌≤◌, ◌^◌, arith, ap, sym, refl, ◌∙◌, List, [], ◌∷◌, ◌++◌, length, map, Bool, IsTrue, All, slice_index, get_or, get_or-append-add}
+use Rattle.std.proofs.Common.{◌≡◌, ℕ, zero, suc, ◌+◌, ◌*◌, max, fold, length-append, ◌<◌, ◌≤◌, ◌^◌, arith, ap, ◌∙◌, List, [], ◌∷◌, length, map, Bool, All, slice_index, get_or, get_or-append-add}
 use Rattle.std.specs.List.{flat_map, range_with_len}
 use Rattle.std.proofs.lemmas.List.{get_or_append_left, get_or_default}
 use Rattle.std.proofs.Math.Nat.{suc-mul}
 use Rattle.std.proofs.lemmas.Nat.{mul-add-lt}
 use Rattle.std.proofs.lemmas.List.FromFn.{fill_by_all, length-map-range_with_len, get_or-map-range_with_len}
 use Rattle.gs_topo.specs.Graph.{Graph, adjacent, Adjacent, neighbours_of}
-use Rattle.gs_topo.specs.Walks.{IsGraph, IsLeast, IsWalk, length_of, one_each, distance_of, distances_of, diameter_of}
-use Rattle.gs_topo.specs.Search.{AreSteps, AreSums, Searched, far}
+use Rattle.gs_topo.specs.Walks.{IsGraph, one_each, distance_of, distances_of, diameter_of}
+use Rattle.gs_topo.specs.Search.{AreSteps, AreSums, Searched}
 use Rattle.gs_topo.specs.declared.steps.Step.{Step}
 use Rattle.gs_topo.proofs.Walks.{below_walks}
 use Rattle.gs_topo.proofs.Distances.{is_least, is_below}

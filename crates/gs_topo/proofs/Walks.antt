@@ -1,6 +1,6 @@
 use Rattle.std.proofs.Common.{◌≡◌, ℕ, ◌+◌, ◌*◌, ◌<◌, ◌≤◌, arith, ap, sym, refl, subst, List, [], ◌∷◌, ◌++◌}
-use Rattle.std.proofs.Math.Nat.{mul-add, mul-le-mul_right, add-mul}
-use Rattle.gs_topo.specs.Walks.{IsWalk, length_of, IsLeast}
+use Rattle.std.proofs.Math.Nat.{mul-add}
+use Rattle.gs_topo.specs.Walks.{IsWalk, length_of}
 
 -- a walk and one from its end are a walk
 pub walk_append : (adj : ℕ → ℕ → Type 0) (n : ℕ) (v w z : ℕ) (xs ys : List ℕ) → IsWalk adj n v xs w → IsWalk adj n w ys z → IsWalk adj n v (xs ++ ys) z

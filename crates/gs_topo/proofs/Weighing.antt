@@ -1,6 +1,5 @@
-use Rattle.std.proofs.Common.{◌≡◌, ◌≢◌, ℕ, ◌+◌, ◌<◌, ◌≤◌, arith, sym, refl, List, [], ◌∷◌, ◌++◌, Bool, IsTrue}
-use Rattle.gs_topo.specs.Weights.{Weighs}
-use Rattle.gs_topo.specs.Walks.{IsWalk, length_of, IsLeast}
+use Rattle.std.proofs.Common.{◌≡◌, ◌≢◌, ℕ, ◌+◌, ◌<◌, ◌≤◌, arith, sym, refl, List, [], ◌∷◌, Bool, IsTrue}
+use Rattle.gs_topo.specs.Walks.{IsWalk, length_of}
 use Rattle.gs_topo.specs.Laws.{AreLeastSums, LeastSumsWeigh}
 use Rattle.gs_topo.proofs.Walks.{turned}
 

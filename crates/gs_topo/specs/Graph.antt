@@ -1,4 +1,4 @@
-use Rattle.std.specs.Prelude.{◌≡◌, ℕ, ◌+◌, ◌-◌, ◌<◌, ◌≤◌, ◌⊎◌, ◌&&◌, ◌||◌, ◌==◌, Bool, IsTrue, List, Option, All, AllPairs, filter, length, map, position}
+use Rattle.std.specs.Prelude.{◌≡◌, ℕ, ◌+◌, ◌-◌, ◌<◌, ◌⊎◌, ◌&&◌, ◌||◌, ◌==◌, Bool, IsTrue, List, Option, filter, map, position}
 use Rattle.std.specs.List.{flat_map, list_any, range_with_len}
 
 -- an undirected graph: the nodes below a number, and the edges as pairs of nodes

@@ -1,4 +1,4 @@
-use Rattle.std.specs.Prelude.{◌≡◌, ℕ, ◌*◌, ◌+◌, ◌<◌, ◌^◌, Bool, false, List, length, map, slice_index_or}
+use Rattle.std.specs.Prelude.{◌≡◌, ℕ, ◌*◌, ◌+◌, ◌<◌, Bool, false, List, length, map, slice_index_or}
 use Rattle.std.specs.List.{range_with_len}
 use Rattle.gs_topo.specs.Graph.{Graph, adjacent, neighbours_of}
 use Rattle.gs_topo.specs.Walks.{IsGraph, distances_of, diameter_of, one_each}

@@ -5,3 +5,4 @@ pub mod Weights
 pub mod Laws
 pub mod Kept
 pub mod Search
+pub mod Weighted

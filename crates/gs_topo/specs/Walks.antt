@@ -1,4 +1,4 @@
-use Rattle.std.specs.Prelude.{◌≡◌, ℕ, zero, suc, ◌+◌, ◌<◌, ◌≤◌, ◌&&◌, ◌==◌, max, Bool, IsTrue, if◌then◌else◌, List, [], ◌∷◌, All, AllPairs, Option, Some, None, fold, is_some, length, map, unwrap_or}
+use Rattle.std.specs.Prelude.{◌≡◌, ℕ, zero, suc, ◌+◌, ◌<◌, ◌≤◌, ◌&&◌, ◌==◌, max, Bool, if◌then◌else◌, List, [], ◌∷◌, All, AllPairs, Option, Some, None, fold, is_some, length, map, unwrap_or}
 use Rattle.std.specs.List.{flat_map, list_any, range_with_len}
 use Rattle.gs_topo.specs.Graph.{Graph, adjacent, Adjacent, IsBefore}
 

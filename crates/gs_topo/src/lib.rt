@@ -1,9 +1,11 @@
-//! Topologies.
+//! Topologies of a cluster: the graph of its nodes with the distances of all pairs and, for edges of
+//! different lengths, the weights of all pairs.
 #![tactic(auto)]
 
 pub use fault::TopoFault;
 pub use laws::{distances_are_metric, least_sums_weigh};
 pub use topology::{MAX_EDGES, MAX_NODES, Topology};
+pub use weights::Weights;
 
 mod build;
 mod fault;
@@ -16,3 +18,4 @@ mod steps;
 #[cfg(test)]
 mod tests;
 mod topology;
+mod weights;

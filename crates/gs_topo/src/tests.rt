@@ -1,4 +1,4 @@
-use crate::{TopoFault, Topology};
+use crate::{TopoFault, Topology, Weights};
 use std::alloc::{AllocError, Global};
 
 fn fault(alloc: Global, n: u32, edges: &[(u32, u32)]) -> Option<TopoFault> {
@@ -53,4 +53,28 @@ fn a_grid_of_two_rows(rt: HostRuntime) {
     assert_eq!(rt; grid.adjacent(1, 5), false);
     assert_eq!(rt; grid.edge_between(4, 1), Some(3));
     assert_eq!(rt; grid.edge_between(1, 5), None);
+}
+
+#[test]
+fn weights_take_the_shortest_way(rt: HostRuntime) -> Result<(), AllocError> {
+    let alloc = rt.alloc();
+    let line = match Topology::new(alloc, 3, &[(0, 1), (1, 2)]) {
+        Ok(line) => line,
+        Err(_) => panic!(rt; "no line"),
+    };
+    assert!(rt; line.edges().len() == 2);
+    let unequal = Weights::new(alloc, &line, &[122_529, 22_529])?;
+    assert_eq!(rt; unequal.weight(0, 2), 145_058);
+    let equal = Weights::new(alloc, &line, &[7, 7])?;
+    assert_eq!(rt; equal.weight(2, 0), 14);
+    let triangle = match Topology::new(alloc, 3, &[(0, 1), (1, 2), (0, 2)]) {
+        Ok(triangle) => triangle,
+        Err(_) => panic!(rt; "no triangle"),
+    };
+    assert!(rt; triangle.edges().len() == 3);
+    let detour = Weights::new(alloc, &triangle, &[3, 9, 4])?;
+    assert_eq!(rt; detour.weight(0, 2), 7);
+    assert_eq!(rt; detour.weight(0, 1), 3);
+    assert_eq!(rt; detour.weight(1, 1), 0);
+    Ok(())
 }

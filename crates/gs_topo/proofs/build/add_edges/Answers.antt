@@ -1,4 +1,4 @@
-use Rattle.std.proofs.Common.{◌≡◌, ◌+◌, ◌≤◌, ◌∙◌, ◌++◌, arith, rules, append_assoc}
+use Rattle.std.proofs.Common.{arith, append_assoc}
 use Rattle.gs_topo.specs.Kept.{flag_at}
 use Rattle.gs_topo.proofs.Building.{row_more}
 use Rattle.gs_topo.proofs.build.add_edges.Goals as goal

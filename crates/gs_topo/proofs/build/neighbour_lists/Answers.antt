@@ -1,4 +1,4 @@
-use Rattle.std.proofs.Common.{◌≡◌, ◌++◌, filter}
+use Rattle.std.proofs.Common.{filter}
 use Rattle.std.specs.List.{range_with_len}
 use Rattle.gs_topo.specs.Kept.{flag_at}
 use Rattle.gs_topo.proofs.Building.{map_range_more}

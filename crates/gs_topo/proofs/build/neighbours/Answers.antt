@@ -1,4 +1,3 @@
-use Rattle.std.proofs.Common.{◌≡◌, ◌∙◌, ◌++◌}
 use Rattle.gs_topo.specs.Kept.{flag_at}
 use Rattle.gs_topo.proofs.Building.{filter_range_more}
 use Rattle.gs_topo.proofs.build.neighbours.Goals as goal

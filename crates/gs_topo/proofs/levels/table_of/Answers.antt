@@ -1,5 +1,5 @@
-use Rattle.std.proofs.Common.{arith, ◌≡◌, ◌∙◌, ◌++◌, ◌<◌, map}
-use Rattle.std.specs.List.{flat_map, range_with_len}
+use Rattle.std.proofs.Common.{arith, ◌<◌, map}
+use Rattle.std.specs.List.{range_with_len}
 use Rattle.gs_topo.specs.Walks.{distance_of}
 use Rattle.gs_topo.proofs.Building.{flat_range_more}
 use Rattle.gs_topo.proofs.Tables.{row_is}

@@ -1,4 +1,4 @@
-use Rattle.std.proofs.Common.{rules, arith, ◌≡◌, ◌<◌, ◌+◌, ◌*◌, ◌≤◌, List, [], ◌∷◌, length, replicate, slice_index, slice_index_or, sum, ap, sym, ◌∙◌, All, subst}
+use Rattle.std.proofs.Common.{rules, arith, ◌≡◌, ◌<◌, [], ◌∷◌, length, replicate, slice_index, slice_index_or, sym, ◌∙◌, All, subst}
 use Rattle.std.proofs.lemmas.List.{get_or_read}
 use Rattle.std.proofs.lemmas.List.Elements.{All-head, All-tail}
 use Rattle.gs_topo.specs.Search.{Trial, AreInside, all_tried, far}

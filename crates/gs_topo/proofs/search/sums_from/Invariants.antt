@@ -1,4 +1,4 @@
-use Rattle.std.proofs.Common.{◌+◌, ◌*◌, ℕ, Bool, length, sum, vec_len}
+use Rattle.std.proofs.Common.{◌+◌, ◌*◌, ℕ, Bool, length, sum}
 use Rattle.gs_topo.specs.Search.{AreSteps}
 use Rattle.gs_topo.proofs.Searching.{IsWithin, IsUnderWay}
 use Rattle.gs_topo.proofs.search.sums_from.Given as goal

@@ -1,4 +1,4 @@
-use Rattle.std.proofs.Common.{arith, ◌≡◌, ◌∙◌, sym, true, false}
+use Rattle.std.proofs.Common.{arith, ◌∙◌, sym}
 use Rattle.gs_topo.specs.Graph.{joins}
 use Rattle.gs_topo.proofs.Nearer.{position_at, position_nowhere}
 use Rattle.gs_topo.proofs.topology.edge_number.Goals as goal

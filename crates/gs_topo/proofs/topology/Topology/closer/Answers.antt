@@ -1,8 +1,8 @@
-use Rattle.std.proofs.Common.{arith, ◌≡◌, ◌+◌, ◌<◌, ◌∙◌, ap, sym, length, get_or, slice_index}
+use Rattle.std.proofs.Common.{arith, ◌≡◌, ◌+◌, ◌<◌, length, slice_index}
 use Rattle.gs_topo.specs.Graph.{neighbours_of}
 use Rattle.gs_topo.specs.Kept.{AreKept}
 use Rattle.gs_topo.specs.Walks.{distance_of}
-use Rattle.gs_topo.proofs.Nearer.{NoneBefore, found_closer, must_find, neighbour_inside}
+use Rattle.gs_topo.proofs.Nearer.{found_closer, must_find, neighbour_inside}
 use Rattle.gs_topo.proofs.topology.Topology.closer.Goals as goal
 
 pub distance-requires : goal.distance-requires

@@ -1,8 +1,8 @@
-use Rattle.std.proofs.Common.{arith, rules, ◌≡◌, ◌∙◌, ◌*◌, ◌+◌, ◌<◌, ap, sym, slice_index, length}
+use Rattle.std.proofs.Common.{rules, ◌≡◌, ◌∙◌, ◌*◌, ◌+◌, ◌<◌, ap, slice_index, length}
 use Rattle.std.proofs.lemmas.List.{get_or_read}
-use Rattle.gs_topo.specs.Graph.{Graph, Adjacent}
+use Rattle.gs_topo.specs.Graph.{Graph}
 use Rattle.gs_topo.specs.Kept.{AreKept}
-use Rattle.gs_topo.specs.Walks.{IsLeast, distance_of, one_each}
+use Rattle.gs_topo.specs.Walks.{distance_of}
 use Rattle.gs_topo.proofs.Distances.{is_below, is_least}
 use Rattle.gs_topo.proofs.Tables.{entry_is}
 use Rattle.gs_topo.proofs.topology.Topology.distance.Goals as goal

@@ -1,4 +1,4 @@
-use Rattle.std.proofs.Common.{arith, rules, ◌≡◌, ◌∙◌, ◌<◌, ap, sym, length}
+use Rattle.std.proofs.Common.{rules, ◌≡◌, ◌∙◌, ◌<◌, ap, length}
 use Rattle.gs_topo.specs.Graph.{Graph}
 use Rattle.gs_topo.specs.Kept.{AreKept}
 use Rattle.gs_topo.proofs.Tables.{list_is}

@@ -1,7 +1,6 @@
-use Rattle.std.proofs.Common.{arith, rules, ◌≡◌, ◌∙◌, ◌<◌, ◌≤◌, ap, sym, subst, length, List, All}
+use Rattle.std.proofs.Common.{arith, ◌≡◌, ◌∙◌, ap, sym, subst, length}
 use Rattle.gs_topo.specs.Graph.{Graph, adjacent, graph_of, joined}
 use Rattle.gs_topo.specs.Kept.{AreKept, HasFlags}
-use Rattle.gs_topo.specs.Search.{AreInside}
 use Rattle.gs_topo.specs.Walks.{IsGraph, one_each}
 use Rattle.gs_topo.proofs.Sound.{IsSearched, all_steps, edges_are, inside_of, lists_are, none_found, split_found}
 use Rattle.gs_topo.proofs.Tables.{diameter_is, sums_of}
