@@ -1,13 +1,13 @@
 -- The text that `plan` writes.
-use Rattle.std.specs.Prelude.{ℕ, zero, suc, ◌+◌, List, [], ◌∷◌, ◌++◌, codes, decimal, length, slice_index_or}
+use Rattle.std.specs.Prelude.{ℕ, zero, suc, ◌+◌, List, [], ◌∷◌, ◌++◌, codes, decimal, length, Option, Some, None, slice_get}
 use Rattle.gs_topo.specs.Graph.{Graph}
 use Rattle.gs_topo.specs.Walks.{diameter_of}
 use Rattle.gs_planfile.specs.declared.text.PlanText.{PlanText}
 use Rattle.gs_planfile.specs.declared.text.Version.{Version}
 use Rattle.gs_planfile.specs.declared.text.Version.TheVariants.{One, Two}
-use Rattle.gs_plan.specs.declared.edge.EdgeText.{EdgeText}
-use Rattle.gs_plan.specs.Edges.{own_text, edge_text}
-use Rattle.gs_plan.specs.Numbers.{q_in, top_in, sigma_in, r_in, iota_in, kappa_in, delta_in, comp_in}
+use Rattle.gs_plan.specs.declared.edge.EdgeNumbers.{EdgeNumbers}
+use Rattle.gs_plan.specs.Edges.{own_text}
+use Rattle.gs_plan.specs.Numbers.{q_in, top_in, sigma_in, r_in, iota_in, kappa_in, delta_in, comp_in, numbers_of}
 use Rattle.gs_plan.specs.Bounds.{lambda_in, level_in, local_in, best_in, best_edge_in}
 use Rattle.gs_plan.specs.Shapes.{graph_of_text}
 
@@ -51,23 +51,21 @@ with_levels text t g (suc n) = with_level (with_levels text t g n) t g n
 abbrev pub with_best : List ℕ → PlanText → Graph → List ℕ
 with_best text t g = text ++ codes "best " ++ decimal (best_in t g).0 ++ codes " " ++ decimal (best_in t g).1 ++ 10 ∷ []
 
--- the edge of a number
-abbrev pub edge_of : Graph → ℕ → ℕ × ℕ
-edge_of g e = slice_index_or g.edges e (0, 0)
+-- the line of an edge: its ends, its delays, its kappa and its best level
+abbrev pub edge_line : List ℕ → ℕ × ℕ → EdgeNumbers → ℕ × ℕ → List ℕ
+edge_line text ends e best =
+    text ++ codes "edge " ++ decimal ends.0 ++ codes " " ++ decimal ends.1 ++ codes " delay " ++ decimal e.delay_min ++ codes " " ++ decimal e.delay_max
+    ++ codes " kappa " ++ decimal e.kappa ++ codes " best " ++ decimal best.0 ++ codes " " ++ decimal best.1 ++ 10 ∷ []
 
--- the kappa of an edge
-abbrev pub edge_kappa : PlanText → ℕ × ℕ → ℕ
-edge_kappa t e = kappa_in t (edge_text t e)
+-- that of an edge with its numbers, where there is one
+abbrev pub with_numbers : List ℕ → PlanText → Graph → Option (ℕ × ℕ) → Option EdgeNumbers → List ℕ
+with_numbers text t g (Some ends) (Some e) = edge_line text ends e (best_edge_in t g e.kappa)
+with_numbers text t g (Some ends) None = text
+with_numbers text t g None e = text
 
--- the line of an edge: its delays, its kappa and its best level
-abbrev pub edge_line : List ℕ → ℕ × ℕ → EdgeText → ℕ → ℕ × ℕ → List ℕ
-edge_line text e own kappa best =
-    text ++ codes "edge " ++ decimal e.0 ++ codes " " ++ decimal e.1 ++ codes " delay " ++ decimal own.delay_min ++ codes " " ++ decimal own.delay_max
-    ++ codes " kappa " ++ decimal kappa ++ codes " best " ++ decimal best.0 ++ codes " " ++ decimal best.1 ++ 10 ∷ []
-
+-- the line of the edge of a number
 abbrev pub with_edge : List ℕ → PlanText → Graph → ℕ → List ℕ
-with_edge text t g e =
-    edge_line text (edge_of g e) (edge_text t (edge_of g e)) (edge_kappa t (edge_of g e)) (best_edge_in t g (edge_kappa t (edge_of g e)))
+with_edge text t g i = with_numbers text t g (slice_get g.edges i) (slice_get (numbers_of t g) i)
 
 -- the lines of the first n edges
 abbrev pub with_edges : List ℕ → PlanText → Graph → ℕ → List ℕ

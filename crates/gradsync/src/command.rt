@@ -88,7 +88,7 @@ pub fn command_of(words: &[String]) -> Option<Command<'_>>
 }
 
 /// The number that a word is, where it is within these bounds.
-fn number_within(word: &str, least: u64, most: u64) -> Option<u64>
+pub fn number_within(word: &str, least: u64, most: u64) -> Option<u64>
     ensures { result ≡ number_within least most word.now }
 {
     match gs_text::read_u64(word.as_bytes()) {

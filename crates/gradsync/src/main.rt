@@ -18,6 +18,7 @@ mod reading;
 mod refusal;
 mod reply;
 mod status;
+mod stop;
 #[cfg(test)]
 mod tests;
 mod tool;

@@ -2,9 +2,9 @@
 
 ghost use Rattle.std.specs.Prelude.{◌≡◌, ◌+◌, ◌<◌, ◌≤◌, ◌++◌, List, ℕ, length, decimal, OnOk, IfOk};
 ghost use Rattle.gs_plan.specs.Plans.{text_of, graph_of};
-ghost use Rattle.gradsync.specs.PlanTexts.{plan_text, with_best, with_edge, with_edges, with_level, with_levels, with_link, with_rate, with_size, with_spans, with_terms, with_times};
+ghost use Rattle.gradsync.specs.PlanTexts.{edge_line, plan_text, with_best, with_edge, with_edges, with_level, with_levels, with_link, with_rate, with_size, with_spans, with_terms, with_times};
 
-use gs_plan::Plan;
+use gs_plan::{EdgeNumbers, Plan};
 use gs_planfile::Version;
 use gs_text::Lines;
 use std::alloc::{AllocError, Global};
@@ -84,13 +84,15 @@ fn write_terms(text: &mut Lines, plan: &Plan) -> Result<(), AllocError>
     text.end()
 }
 
+#[tactic(auto, using(crate::proofs::Growing::lines))]
 fn write_levels(text: &mut Lines, plan: &Plan) -> Result<(), AllocError>
     ensures { OnOk result (text.new ≡ with_levels text.old (text_of plan.now) (graph_of plan.now) ((text_of plan.now).levels + 1)) }
 {
-    for s in 0..=plan.text().levels {
+    let last = plan.text().levels;
+    for s in 0..last {
         write_level(text, plan, s)?;
     }
-    Ok(())
+    write_level(text, plan, last)
 }
 
 fn write_level(text: &mut Lines, plan: &Plan, s: u32) -> Result<(), AllocError>
@@ -122,6 +124,7 @@ fn write_spans(text: &mut Lines, plan: &Plan) -> Result<(), AllocError>
     }
 }
 
+#[tactic(auto, using(crate::proofs::Growing::lines))]
 fn write_edges(text: &mut Lines, plan: &Plan) -> Result<(), AllocError>
     ensures { OnOk result (text.new ≡ with_edges text.old (text_of plan.now) (graph_of plan.now) (length (graph_of plan.now).edges)) }
 {
@@ -131,19 +134,24 @@ fn write_edges(text: &mut Lines, plan: &Plan) -> Result<(), AllocError>
     Ok(())
 }
 
+#[tactic(auto, using(crate::proofs::Growing::one_edge))]
 fn write_edge(text: &mut Lines, plan: &Plan, e: u32) -> Result<(), AllocError>
     requires { e < length (graph_of plan.now).edges }
     ensures { OnOk result (text.new ≡ with_edge text.old (text_of plan.now) (graph_of plan.now) e) }
 {
-    let (a, b) = plan.topo().edges()[e as usize];
-    let numbers = plan.edge(e);
-    let (s, skew) = plan.best_edge(e);
-    write_number(text, "edge ", u128::from(a))?;
-    write_number(text, " ", u128::from(b))?;
-    write_number(text, " delay ", u128::from(numbers.delay_min))?;
-    write_number(text, " ", u128::from(numbers.delay_max))?;
-    write_number(text, " kappa ", u128::from(numbers.kappa))?;
-    write_number(text, " best ", u128::from(s))?;
-    write_number(text, " ", u128::from(skew))?;
+    let ends = plan.topo().edges()[e as usize];
+    write_edge_line(text, ends, &plan.edge(e), plan.best_edge(e))
+}
+
+fn write_edge_line(text: &mut Lines, ends: (u32, u32), edge: &EdgeNumbers, best: (u32, u64)) -> Result<(), AllocError>
+    ensures { OnOk result (text.new ≡ edge_line text.old ends edge.now best) }
+{
+    write_number(text, "edge ", u128::from(ends.0))?;
+    write_number(text, " ", u128::from(ends.1))?;
+    write_number(text, " delay ", u128::from(edge.delay_min))?;
+    write_number(text, " ", u128::from(edge.delay_max))?;
+    write_number(text, " kappa ", u128::from(edge.kappa))?;
+    write_number(text, " best ", u128::from(best.0))?;
+    write_number(text, " ", u128::from(best.1))?;
     text.end()
 }

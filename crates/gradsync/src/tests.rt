@@ -1,7 +1,6 @@
 use crate::status::Status;
 use crate::tool::run_tool;
 use gs_io::{MemFiles, MemSink, PlainGate};
-use std::alloc::Global;
 use std::test::Fail;
 
 const REPORT: &str = "nodes 2 edges 1 quanta 1000
@@ -17,17 +16,63 @@ fast 0
 
 const USAGE: &str = "usage: gradsync plan, play, trace, audit, replay, gen or node\n";
 
-/// Runs the words of a line with a sink whose writes of these numbers fail.
-fn run(rt: &HostRuntime, line: &str, fails: &[u64]) -> Result<(Status, Vec<u8>), Fail> {
+const LINE: &str = "version = 1
+cluster = 7
+topology = \"line\"
+nodes = 33
+lo = 10000
+hi = 10001
+mu = 2000
+tick = 100
+delay_min = 2
+delay_max = 12
+every = 1
+losses = 3
+age = 412
+";
+
+const LINE_TEXT: &str = "nodes 33 edges 32 diameter 32
+rate lo 10000 hi 10001 mu 2000 q 20 top 10022 sigma 20
+tick 100 delay 2 12 age 412
+kappa 122529 delta 61264 comp 70000
+iota 2201 lambda 3226368 term 1
+level 0 skew 3228669 neighbour 3228669
+level 1 skew 161435 neighbour 406493
+level 2 skew 8073 neighbour 498189
+level 3 skew 405 neighbour 735579
+level 4 skew 22 neighbour 980254
+best 1 406493
+";
+
+/// What a run answered, and what it wrote.
+type Ran = (Status, Vec<u8>);
+
+/// Runs the words of a line over these files, with reads and writes of these numbers failing.
+fn run_with(
+    rt: &HostRuntime,
+    line: &str,
+    files: &[(&str, &[u8])],
+    reads: &[u64],
+    writes: &[u64],
+) -> Result<Ran, Fail> {
     let alloc = rt.alloc();
     let mut words = Vec::new(alloc);
     for word in line.split_whitespace() {
         words.push(String::from_str(alloc, word)?)?;
     }
-    let mut files = MemFiles::new(alloc, Vec::new(alloc), Vec::new(alloc));
-    let mut out = MemSink::new(alloc, fails.to_vec(alloc)?);
+    let mut held = Vec::new(alloc);
+    for (name, bytes) in files {
+        held.push((String::from_str(alloc, name)?, bytes.to_vec(alloc)?))?;
+    }
+    let mut files = MemFiles::new(alloc, held, reads.to_vec(alloc)?);
+    let mut out = MemSink::new(alloc, writes.to_vec(alloc)?);
     let status = run_tool(alloc, &words, &mut files, &mut out, &PlainGate::new(rt));
     Ok((status, out.bytes().to_vec(alloc)?))
+}
+
+/// Runs the words of a line without files, where the writes of these numbers fail.
+fn run(rt: &HostRuntime, line: &str, fails: &[u64]) -> Result<Ran, Fail> {
+    run_with(rt, line, &[], &[], fails)
 }
 
 #[test]
@@ -56,7 +101,6 @@ fn each_line_of_words_has_its_status_and_text(rt: HostRuntime) -> Result<(), Fai
         ("slots base:2 steady:9 4294967296 1", Status::Usage, USAGE),
         ("order base:2 steady:9 0", Status::Usage, USAGE),
         ("order base:2 steady:9 1048577", Status::Usage, USAGE),
-        ("plan base:2", Status::Unbuilt, "not built\n"),
         ("play base:2 steady:10 64", Status::Unbuilt, "not built\n"),
         ("play base:3 steady:1000 1", Status::Unbuilt, "not built\n"),
         ("play base:2 s.csv 1", Status::Unbuilt, "not built\n"),
@@ -68,7 +112,6 @@ fn each_line_of_words_has_its_status_and_text(rt: HostRuntime) -> Result<(), Fai
             Status::Unbuilt,
             "not built\n",
         ),
-        ("migrate p.toml", Status::Unbuilt, "not built\n"),
         (
             "settle base:2 steady:9 2305843009213693952",
             Status::Unbuilt,
@@ -122,5 +165,51 @@ fn a_failing_sink_has_the_lines_before_it(rt: HostRuntime) -> Result<(), Fail> {
         let ends = written.iter().filter(|byte| **byte == b'\n').count();
         assert_eq!(rt; ends, lines, "at write {call}");
     }
+    Ok(())
+}
+
+#[test]
+fn a_plan_file_gives_its_bounds_or_what_is_wrong(rt: HostRuntime) -> Result<(), Fail> {
+    for (name, text, status, written) in [
+        ("line.toml", LINE, Status::Done, LINE_TEXT),
+        ("bytes.toml", "version = ", Status::PlanRefused, "plan refused: toml\n"),
+        ("empty.toml", "", Status::PlanRefused, "plan refused: missing version\n"),
+        ("v.toml", "version = 3\n", Status::PlanRefused, "plan refused: range version\n"),
+        ("c.toml", "version = 1\ncluster = true\n", Status::PlanRefused, "plan refused: kind cluster\n"),
+    ] {
+        let line = format!(in rt.alloc(); "plan {name}")?;
+        let (answered, out) = run_with(&rt, line.as_str(), &[(name, text.as_bytes())], &[], &[])?;
+        assert_eq!(rt; answered, status, "of {name}");
+        assert_eq!(rt; out.as_slice(), written.as_bytes(), "of {name}");
+    }
+    Ok(())
+}
+
+#[test]
+fn words_of_plans_are_answered_in_order(rt: HostRuntime) -> Result<(), Fail> {
+    for (line, status, text) in [
+        ("plan missing.toml", Status::ReadFault, "read failed: missing.toml\n"),
+        ("migrate missing.toml", Status::ReadFault, "read failed: missing.toml\n"),
+        ("plan base:x", Status::PlanRefused, "plan refused: number\n"),
+        ("plan base:", Status::PlanRefused, "plan refused: number\n"),
+        ("plan base:4294967296", Status::PlanRefused, "plan refused: number\n"),
+        ("plan base:0", Status::PlanRefused, "plan refused: count\n"),
+        ("plan base:513", Status::PlanRefused, "plan refused: count\n"),
+        ("migrate base:513", Status::PlanRefused, "plan refused: count\n"),
+        ("plan base:33", Status::Done, LINE_TEXT),
+    ] {
+        let (answered, written) = run(&rt, line, &[])?;
+        assert_eq!(rt; answered, status, "of {line:?}");
+        assert_eq!(rt; written.as_slice(), text.as_bytes(), "of {line:?}");
+    }
+    Ok(())
+}
+
+#[test]
+fn a_failed_read_names_its_file(rt: HostRuntime) -> Result<(), Fail> {
+    let files = [("line.toml", LINE.as_bytes())];
+    let (status, written) = run_with(&rt, "plan line.toml", &files, &[1], &[])?;
+    assert_eq!(rt; status, Status::ReadFault);
+    assert_eq!(rt; written.as_slice(), b"read failed: line.toml\n".as_slice());
     Ok(())
 }
