@@ -1,0 +1,13 @@
+pub mod Members
+pub mod Walks
+pub mod Weighing
+pub mod Relaxing
+pub mod Searching
+pub mod Distances
+pub mod Flagging
+pub mod Building
+pub mod Tables
+pub mod Ascending
+pub mod Sound
+pub mod Nearer
+pub mod LeastSums
