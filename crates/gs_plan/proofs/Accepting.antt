@@ -16,6 +16,7 @@ use Rattle.gs_plan.specs.Bounds.{global_in, kappa_most}
 use Rattle.gs_plan.specs.Edges.{edge_text, edge_texts, own_text, span_between, span_text}
 use Rattle.gs_plan.specs.Faults.{are_bad_delays, are_bad_ports, are_low_kappas, beacon_bound, fault_over, fault_where, first_some, is_bad_span, is_low_kappa, is_one, is_outside, is_wide, span_fault}
 use Rattle.gs_plan.specs.Numbers.{kappa_in, least_kappa_in, q_in, r_in}
+use Rattle.gs_plan.proofs.Keeping.{each_below}
 
 -- no fault is the first of two where neither is one
 pub none_of : {X : Type 0} (x y : Option X) → option_or x y ≡ None → (x ≡ None) × (y ≡ None)
@@ -27,7 +28,8 @@ pub passes : (test : Bool) (f : PlanFault) → fault_where test f ≡ None → t
 passes true f h = cc
 passes false f h = refl
 
-neither : (a b : Bool) → a || b ≡ false → (a ≡ false) × (b ≡ false)
+-- neither of two tests holds where not one of them does
+pub neither : (a b : Bool) → a || b ≡ false → (a ≡ false) × (b ≡ false)
 neither true b h = cc
 neither false b h = (refl, h)
 
@@ -81,9 +83,9 @@ found_fine t p (s ∷ ss) delays kappas own =
     let rest = found_fine t p ss (All-tail (λ s. are_bad_delays s.delay_min s.delay_max ≡ false) s ss delays) (All-tail (λ s. is_low_kappa t (span_text s) ≡ false) s ss kappas) own in
     let here = fine_of t (span_text s) (All-head (λ s. are_bad_delays s.delay_min s.delay_max ≡ false) s ss delays) (All-head (λ s. is_low_kappa t (span_text s) ≡ false) s ss kappas) in
     pick (p s) here rest where
-  pick : (b : Bool) → IsFine t (span_text s) → IsFine t (option_map_or span_text (find p ss) (own_text t)) → IsFine t (option_map_or span_text (cond b (Some s) (find p ss)) (own_text t))
-  pick true here rest = here
-  pick false here rest = rest
+      pick : (b : Bool) → IsFine t (span_text s) → IsFine t (option_map_or span_text (find p ss) (own_text t)) → IsFine t (option_map_or span_text (cond b (Some s) (find p ss)) (own_text t))
+      pick true here rest = here
+      pick false here rest = rest
 
 -- all edges are fine where the plan and all spans are
 edges_fine : (t : PlanText) (es : List (ℕ × ℕ)) → ((e : ℕ × ℕ) → IsFine t (edge_text t e)) → All (IsFine t) (map (edge_text t) es)
@@ -119,5 +121,6 @@ accepted_of t g none =
       strong = ltb-false (q_in t) (2 * r_in t) (passes (nat_lt (q_in t) (2 * r_in t)) fault.Weak weak.0);
       own = own;
       edges = edges_fine t g.edges (λ e. found_fine t (λ s. joins (s.a, s.b) e.0 e.1) t.spans delays kappas own);
+      in_age = (let enough = ltb-false t.age (beacon_bound t g) (passes (nat_lt t.age (beacon_bound t g)) fault.Age age.0) in λ k d h. (let below = each_below (λ e. e.delay_max) t g k d h in omega (arith, below, enough)));
       fits = leb-false (2 ^ 62) (2 * t.levels * kappa_most t g + global_in t g) (passes (is_wide t g) fault.Wide wide.0);
     }

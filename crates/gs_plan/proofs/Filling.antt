@@ -25,4 +25,5 @@ two_rows_fit rows cols row most h room =
     omega (arith, more, room, add-mul row 2 cols)
 
 pub ruleset filling = (map_range_more, map_range_push)
+
 pub ruleset rows = (flat_range_push, row_fits, two_rows_fit)

@@ -37,25 +37,25 @@ kappa_fits t g is =
 -- the numbers of the plan's own edges are words
 pub own_words : (t : PlanText) (g : Graph) → IsAccepted t g → AreWords t (own_text t)
 own_words t g is = record {
-    low = is.own.margin;
-    high = (let below = own_below (kappa_in t) t g in let fits = kappa_fits t g is in omega (arith, below, fits));
-  }
+  low = is.own.margin;
+  high = (let below = own_below (kappa_in t) t g in let fits = kappa_fits t g is in omega (arith, below, fits));
+}
 
 -- and so are those of all edges
 pub all_words : (t : PlanText) (g : Graph) → IsAccepted t g → All (AreWords t) (edge_texts t g)
 all_words t g is = λ k d h. record {
-    low = (is.edges k d h).margin;
-    high = (let below = each_below (kappa_in t) t g k d h in let fits = kappa_fits t g is in omega (arith, below, fits));
-  }
+  low = (is.edges k d h).margin;
+  high = (let below = each_below (kappa_in t) t g k d h in let fits = kappa_fits t g is in omega (arith, below, fits));
+}
 
 -- the best level in other words
 pub best_is : (f : ℕ → ℕ) (last : ℕ) → IsBest f last (best_of f last)
 best_is f zero = record {
-    level = omega arith;
-    value = refl;
-    least = λ s h. (let e : s ≡ 0 = omega arith in rw e (omega arith));
-    first = λ s h. absurd (omega arith);
-  }
+  level = omega arith;
+  value = refl;
+  least = λ s h. (let e : s ≡ 0 = omega arith in rw e (omega arith));
+  first = λ s h. absurd (omega arith);
+}
 best_is f (suc last) = pick (nat_lt (f (suc last)) (best_of f last).1) refl (best_is f last) where
   pick : (b : Bool) → nat_lt (f (suc last)) (best_of f last).1 ≡ b → IsBest f last (best_of f last) → IsBest f (suc last) (cond b (suc last, f (suc last)) (best_of f last))
   pick true is old =

@@ -4,4 +4,5 @@ pub mod Chain
 pub mod Accepting
 pub mod Keeping
 pub mod Linking
+pub mod Connecting
 pub mod Telling

@@ -69,7 +69,7 @@ length_is t g v w next =
     let found = has_number g v w next in
     let at = numbers_at t g v w found.0 (numbers_in t (own_text t)) found.1 in
     let here : slice_index (map (λ n. n.kappa) (numbers_of t g)) found.0 ≡ kappa_in t (edge_text t (v, w)) =
-        get_or-map (λ (n : EdgeNumbers). n.kappa) (numbers_of t g) found.0 (numbers_in t (own_text t)) 0 at.0 ∙ ap (λ (n : EdgeNumbers). n.kappa) at.1 in
+    get_or-map (λ (n : EdgeNumbers). n.kappa) (numbers_of t g) found.0 (numbers_in t (own_text t)) 0 at.0 ∙ ap (λ (n : EdgeNumbers). n.kappa) at.1 in
     ap (λ o. option_map_or (slice_index (lengths_in t g).lengths) o 0) found.1 ∙ here
 
 -- lengths that agree on steps agree on walks
@@ -83,9 +83,9 @@ same_sum adj n k m same v w (x ∷ xs) walk =
 -- and have the same least sums
 pub same_least : (adj : ℕ → ℕ → Type 0) (n : ℕ) (k m : ℕ → ℕ → ℕ) → ((v w : ℕ) → adj v w → k v w ≡ m v w) → (v w d : ℕ) → IsLeast adj n k v w d → IsLeast adj n m v w d
 same_least adj n k m same v w d least = record {
-    some = (least.some.0, least.some.1, sym (same_sum adj n k m same v w least.some.0 least.some.1) ∙ least.some.2);
-    each = λ xs walk. rw (← same_sum adj n k m same v w xs walk) (least.each xs walk);
-  }
+  some = (least.some.0, least.some.1, sym (same_sum adj n k m same v w least.some.0 least.some.1) ∙ least.some.2);
+  each = λ xs walk. rw (← same_sum adj n k m same v w xs walk) (least.each xs walk);
+}
 
 -- the weights of a plan's graph are least sums of its kappas
 pub weight_is : (t : PlanText) (g : Graph) (v w d : ℕ) → IsLeast (Adjacent g) g.nodes (length_between (lengths_in t g)) v w d → IsLeast (Adjacent g) g.nodes (kappa_between t) v w d

@@ -14,6 +14,7 @@ use Rattle.gs_units.specs.declared.params.Link.{Link}
 use Rattle.gs_units.specs.declared.rate.Rate.{Rate}
 use Rattle.gs_topo.specs.Faults.{fault_of}
 use Rattle.gs_topo.specs.Graph.{Graph, Adjacent, adjacent, graph_of, joined, joins, neighbours_of, pairs_below}
+use Rattle.gs_topo.specs.Walks.{IsGraph}
 use Rattle.gs_topo.proofs.Ascending.{joins-cases, pairs_within}
 use Rattle.gs_topo.proofs.Members.{member-from_list_any}
 use Rattle.gs_topo.proofs.Nearer.{neighbour_inside}
@@ -29,10 +30,11 @@ use Rattle.gs_plan.specs.Nodes.{link_in, link_over}
 use Rattle.gs_plan.specs.Numbers.{comp_in, delta_in, drift_in, iota_in, jump_in, kappa_in, least_kappa_in, spread_in}
 use Rattle.gs_plan.specs.Shapes.{graph_of_text, shape_edges, shape_nodes}
 use Rattle.gs_plan.proofs.Accepting.{accepted_of, none_of}
+use Rattle.gs_plan.proofs.Connecting.{no_fault_is_graph, no_map}
 use Rattle.gs_plan.proofs.Keeping.{all_words}
 use Rattle.gs_plan.proofs.Linking.{has_number, text_at}
 
-is_none_of : {X : Type 0} (o : Option X) → is_none o ≡ true → o ≡ None
+pub is_none_of : {X : Type 0} (o : Option X) → is_none o ≡ true → o ≡ None
 is_none_of None h = refl
 is_none_of (Some x) h = cc
 
@@ -47,6 +49,14 @@ text_accepted t h =
 
 pub plan_accepted : (t : PlanText) (g : Graph) → IsTrue (is_none (plan_fault t)) → g ≡ graph_of_text t → IsAccepted t g
 plan_accepted t g h is = subst (λ x. IsAccepted t x) (sym is) (text_accepted t h)
+
+-- and its graph is that of a topology
+pub plan_is_graph : (t : PlanText) (g : Graph) → IsTrue (is_none (plan_fault t)) → g ≡ graph_of_text t → IsGraph g
+unfolding plan_fault
+plan_is_graph t g h is =
+    let rate = none_of (option_map fault.Rate (rate_fault t.lo t.hi t.mu)) _ (is_none_of _ h) in
+    let topo = none_of (option_map fault.Topo (fault_of (shape_nodes t.shape) (shape_edges t.shape))) _ rate.1 in
+    subst (λ x. IsGraph x) (sym is) (no_fault_is_graph (shape_nodes t.shape) (shape_edges t.shape) (no_map fault.Topo (fault_of (shape_nodes t.shape) (shape_edges t.shape)) topo.0))
 
 -- the boost of at most a tenth
 boosted_tenth : (mu h : ℕ) → mu ≤ 100000 → 10 * boosted mu h ≤ h

@@ -24,6 +24,7 @@ pub record IsAccepted (t : PlanText) (g : Graph) : Type 0 where
   pub strong : 2 * r_in t ≤ q_in t
   pub own : IsFine t (own_text t)
   pub edges : All (IsFine t) (edge_texts t g)
+  pub in_age : All (λ e. e.delay_max ≤ t.age) (edge_texts t g)
   pub fits : 2 * t.levels * kappa_most t g + global_in t g < 2 ^ 62
 
 -- a text without a fault over a graph

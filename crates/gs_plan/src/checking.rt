@@ -97,9 +97,7 @@ fn is_bad_span(version: Version, topo: &Topology, earlier: &[EdgeSpan], span: Ed
 #[tactic(auto, using(crate::proofs::Chain::spans))]
 fn check_spans(text: &PlanText, topo: &Topology) -> Result<(), PlanFault>
     ensures ok { OnOk result (span_fault text.now.version topo.now 0 [] text.now.spans ≡ None) }
-    ensures err {
-        IfErr result (λ e. e ≢ PlanFault.OutOfMemory → span_fault text.now.version topo.now 0 [] text.now.spans ≡ Some e)
-    }
+    ensures err { IfErr result (λ e. e ≢ PlanFault.OutOfMemory → span_fault text.now.version topo.now 0 [] text.now.spans ≡ Some e) }
 {
     let version = text.version;
     let spans = text.spans.as_slice();
@@ -195,7 +193,10 @@ fn checked_edges(
     ensures err { IfErr result (λ e. e ≢ PlanFault.OutOfMemory → fault_over text.now topo.now ≡ Some e) }
 {
     refuse(is_outside(1, 65_536, text.tick), PlanFault::Tick)?;
-    refuse(are_bad_delays(text.delay_min, text.delay_max), PlanFault::Delay)?;
+    refuse(
+        are_bad_delays(text.delay_min, text.delay_max),
+        PlanFault::Delay,
+    )?;
     check_spans(text, topo)?;
     let edges = edge_texts(alloc, text, topo)?;
     refuse(is_outside(1, 1024, text.every), PlanFault::Every)?;

@@ -4,6 +4,7 @@
 pub use checking::check;
 pub use edge::EdgeNumbers;
 pub use fault::PlanFault;
+pub use laws::accepted_plans;
 pub use plan::Plan;
 
 mod bounds;
@@ -11,7 +12,10 @@ mod checking;
 mod copy;
 mod edge;
 mod fault;
+mod laws;
 mod levels;
 mod numbers;
 mod plan;
 mod shape;
+#[cfg(test)]
+mod tests;

@@ -202,10 +202,8 @@ impl Plan {
     /// units.
     pub fn best_edge(&self, e: u32) -> (u32, u64)
         requires { e < length (graph_of self.now).edges }
-        ensures {
-            IfSome (slice_get (numbers_of (text_of self.now) (graph_of self.now)) e)
-                (λ edge. result ≡ best_edge_in (text_of self.now) (graph_of self.now) edge.kappa)
-        }
+        ensures { IfSome (slice_get (numbers_of (text_of self.now) (graph_of self.now)) e)
+            (λ edge. result ≡ best_edge_in (text_of self.now) (graph_of self.now) edge.kappa) }
     {
         self.best_of(self.edge(e).kappa)
     }
@@ -221,9 +219,7 @@ impl Plan {
     /// The least sum of the kappas of the edges of a walk from `v` to `w`, in clock units.
     pub fn weight(&self, v: u32, w: u32) -> u128
         requires { (v < (graph_of self.now).nodes) × (w < (graph_of self.now).nodes) }
-        ensures {
-            IsLeast (Adjacent (graph_of self.now)) (graph_of self.now).nodes (kappa_between (text_of self.now)) v w result
-        }
+        ensures { IsLeast (Adjacent (graph_of self.now)) (graph_of self.now).nodes (kappa_between (text_of self.now)) v w result }
     {
         self.weights.weight(v, w)
     }
@@ -231,9 +227,7 @@ impl Plan {
     /// What node `v` is told before it runs: each of its links has the numbers of its edge.
     pub fn node(&self, alloc: Global, v: u32) -> Result<NodeParams, AllocError>
         requires { v < (graph_of self.now).nodes }
-        ensures value {
-            IfOk result (λ params. params ≡ params_in (text_of self.now) (graph_of self.now) (rate_of self.now) v)
-        }
+        ensures value { IfOk result (λ params. params ≡ params_in (text_of self.now) (graph_of self.now) (rate_of self.now) v) }
         ensures valid { IfOk result AreValid }
     {
         Ok(NodeParams {
@@ -249,9 +243,7 @@ impl Plan {
     /// The links of `v` in ascending order of its neighbours.
     fn links(&self, alloc: Global, v: u32) -> Result<Vec<Link>, AllocError>
         requires { v < (graph_of self.now).nodes }
-        ensures {
-            IfOk result (λ links. links.items ≡ map (link_in (text_of self.now) v) (neighbours_of (graph_of self.now) v))
-        }
+        ensures { IfOk result (λ links. links.items ≡ map (link_in (text_of self.now) v) (neighbours_of (graph_of self.now) v)) }
     {
         let mut links = Vec::new(alloc);
         for x in self.topo.neighbours(v) {

@@ -118,10 +118,8 @@ fn shape_edges(alloc: Global, shape: &Shape) -> Result<Vec<(u32, u32)>, AllocErr
 pub(crate) fn topology_of(alloc: Global, text: &PlanText) -> Result<Topology, PlanFault>
     ensures graph { IfOk result (λ topo. topo ≡ graph_of_text text.now) }
     ensures ok { OnOk result (fault_of (shape_nodes text.now.shape) (shape_edges text.now.shape) ≡ None) }
-    ensures err {
-        IfErr result (λ e. e ≢ PlanFault.OutOfMemory
-            → option_map PlanFault.Topo (fault_of (shape_nodes text.now.shape) (shape_edges text.now.shape)) ≡ Some e)
-    }
+    ensures err { IfErr result (λ e. e ≢ PlanFault.OutOfMemory
+        → option_map PlanFault.Topo (fault_of (shape_nodes text.now.shape) (shape_edges text.now.shape)) ≡ Some e) }
 {
     let nodes = shape_nodes(&text.shape);
     if nodes == 0 || nodes > u64::from(MAX_NODES) {

@@ -18,6 +18,6 @@ returns c =
     let found : number_of p.topo c.args.v c.args.x ≡ Some c.in-Some.e = cc in
     let at = numbers_at p.text p.topo c.args.v c.args.x c.in-Some.e c.index-edge.result.now found in
     let read : c.index-edge.result.now ≡ numbers_in p.text (edge_text p.text (c.args.v, c.args.x)) =
-        c.index-edge.ensures ∙ ap (λ (xs : List EdgeNumbers). get_or xs c.in-Some.e c.index-edge.result.now) p.each ∙ at.1 in
+    c.index-edge.ensures ∙ ap (λ (xs : List EdgeNumbers). get_or xs c.in-Some.e c.index-edge.result.now) p.each ∙ at.1 in
     let link : EdgeNumbers → Link = λ n. record { node = c.args.x; comp = n.comp; jump = n.jump; kappa = n.kappa; delta = n.delta } in
     ap link read
