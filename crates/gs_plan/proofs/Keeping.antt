@@ -1,0 +1,79 @@
+-- The numbers of a plan fit into words, and each edge's are those of its two ends.
+use Rattle.std.proofs.Common.{◌≡◌, ℕ, zero, suc, ◌+◌, ◌-◌, ◌*◌, ◌/◌, ◌<◌, ◌≤◌, ◌^◌, arith, refl, ap, sym, ◌∙◌, fold, max, map, length, List, [], ◌∷◌, All, cond, Bool, true, false, nat_lt, Option, Some, None, IfSome, get_or, slice_index, slice_get, ltb}
+use Rattle.std.proofs.Math.Nat.{mul-le-mul_right}
+use Rattle.std.proofs.Common.{inl, inr}
+use Rattle.std.proofs.lemmas.Bool.{cases_lt, ltb-false, ltb-true}
+use Rattle.std.proofs.lemmas.List.{get_or-map, length-map}
+use Rattle.gs_topo.specs.Graph.{Graph}
+use Rattle.gs_topo.proofs.Tables.{le_greatest}
+use Rattle.gs_planfile.specs.declared.text.PlanText.{PlanText}
+use Rattle.gs_plan.specs.declared.edge.EdgeText.{EdgeText}
+use Rattle.gs_plan.specs.Accepted.{IsAccepted, IsFine}
+use Rattle.gs_plan.specs.Bounds.{global_in, greatest_in, kappa_most, lambda_in}
+use Rattle.gs_plan.specs.Edges.{edge_text, edge_texts, own_text}
+use Rattle.gs_plan.specs.Kept.{AreWords}
+use Rattle.gs_plan.specs.Levels.{best_of, lesser, IsBest}
+use Rattle.gs_plan.specs.Numbers.{iota_in, kappa_in, numbers_in, numbers_of, q_in, r_in, sigma_in}
+
+-- the plan's own number is at most the greatest
+pub own_below : (f : EdgeText → ℕ) (t : PlanText) (g : Graph) → f (own_text t) ≤ greatest_in f t g
+own_below f t g = (le_greatest (map f (edge_texts t g)) (f (own_text t)) 0).0
+
+-- and so is the number of each edge
+pub each_below : (f : EdgeText → ℕ) (t : PlanText) (g : Graph) (k : ℕ) (d : EdgeText) → k < length (edge_texts t g) → f (get_or (edge_texts t g) k d) ≤ greatest_in f t g
+each_below f t g k d h =
+    let inside : k < length (map f (edge_texts t g)) = rw (length-map (edge_texts t g) f) h in
+    let below = (le_greatest (map f (edge_texts t g)) (f (own_text t)) k).1 inside in
+    let is : slice_index (map f (edge_texts t g)) k ≡ f (get_or (edge_texts t g) k d) = get_or-map f (edge_texts t g) k d 0 h in
+    rw is at below
+
+-- the greatest kappa of an accepted plan
+pub kappa_fits : (t : PlanText) (g : Graph) → IsAccepted t g → (2 * t.levels * kappa_most t g < 2 ^ 62) × (kappa_most t g < 2 ^ 61)
+kappa_fits t g is =
+    let once : 2 * 1 * kappa_most t g ≤ 2 * t.levels * kappa_most t g = mul-le-mul_right (kappa_most t g) (let h = is.some_level in omega (arith, h)) in
+    let fits = is.fits in
+    (omega (arith, fits), omega (arith, fits, once))
+
+-- the numbers of the plan's own edges are words
+pub own_words : (t : PlanText) (g : Graph) → IsAccepted t g → AreWords t (own_text t)
+own_words t g is = record {
+  low = is.own.margin;
+  high = (let below = own_below (kappa_in t) t g in let fits = kappa_fits t g is in omega (arith, below, fits));
+}
+
+-- and so are those of all edges
+pub all_words : (t : PlanText) (g : Graph) → IsAccepted t g → All (AreWords t) (edge_texts t g)
+all_words t g is = λ k d h. record {
+  low = (is.edges k d h).margin;
+  high = (let below = each_below (kappa_in t) t g k d h in let fits = kappa_fits t g is in omega (arith, below, fits));
+}
+
+-- the best level in other words
+pub best_is : (f : ℕ → ℕ) (last : ℕ) → IsBest f last (best_of f last)
+best_is f zero = record {
+  level = omega arith;
+  value = refl;
+  least = λ s h. (let e : s ≡ 0 = omega arith in rw e (omega arith));
+  first = λ s h. absurd (omega arith);
+}
+best_is f (suc last) = pick (nat_lt (f (suc last)) (best_of f last).1) refl (best_is f last) where
+  pick : (b : Bool) → nat_lt (f (suc last)) (best_of f last).1 ≡ b → IsBest f last (best_of f last) → IsBest f (suc last) (cond b (suc last, f (suc last)) (best_of f last))
+  pick true is old =
+      let lower = ltb-true (f (suc last)) (best_of f last).1 is in
+      let before : (s : ℕ) → s ≤ last → f (suc last) < f s = λ s h. (let least = old.least s h in omega (arith, lower, least)) in
+      record {
+        level = omega arith;
+        value = refl;
+        least = λ s h. elim (cases_lt s (suc last)) [ inl lt ↦ (let b = before s (omega (arith, lt)) in omega (arith, b)) | inr le ↦ (let e : s ≡ suc last = omega (arith, le, h) in rw e (omega arith)) ];
+        first = λ s h. before s (omega (arith, h));
+      }
+  pick false is old =
+      let above = ltb-false (f (suc last)) (best_of f last).1 is in
+      record {
+        level = (let h = old.level in omega (arith, h));
+        value = old.value;
+        least = λ s h. elim (cases_lt s (suc last)) [ inl lt ↦ old.least s (omega (arith, lt)) | inr le ↦ (let e : s ≡ suc last = omega (arith, le, h) in rw e above) ];
+        first = old.first;
+      }
+
+pub ruleset facts = (kappa_fits, own_words, all_words, best_is)

@@ -1,0 +1,109 @@
+-- The numbers of an edge, found from either end.
+use Rattle.std.proofs.Common.{◌≡◌, ◌≢◌, ℕ, ◌+◌, ◌-◌, ◌*◌, ◌/◌, ◌<◌, ◌≤◌, ◌^◌, ◌||◌, ◌&&◌, ◌==◌, arith, refl, ap, sym, subst, ◌∙◌, inl, inr, map, length, List, [], ◌∷◌, All, cond, Bool, true, false, IsTrue, Option, Some, None, is_some, position, get_or, slice_get, slice_index, slice_index_or, IfSome}
+use Rattle.std.proofs.Math.Nat.{mul-le-mul_left}
+use Rattle.std.proofs.lemmas.Option.{get_or_from_slice_get, slice_get_within}
+use Rattle.gs_plan.specs.Bounds.{kappa_most}
+use Rattle.gs_plan.proofs.Keeping.{each_below}
+use Rattle.std.specs.List.{find, list_any}
+use Rattle.std.specs.Option.{option_map_or}
+use Rattle.std.proofs.lemmas.List.{get_or-map, length-map}
+use Rattle.std.proofs.lemmas.List.Quantifiers.{position-Some}
+use Rattle.gs_topo.specs.Graph.{Graph, Adjacent, adjacent, joins, number_of}
+use Rattle.gs_topo.specs.Walks.{IsLeast, IsWalk, length_of}
+use Rattle.gs_topo.specs.Weights.{length_between}
+use Rattle.gs_topo.proofs.Ascending.{joins-cases}
+use Rattle.gs_planfile.specs.declared.text.EdgeSpan.{EdgeSpan}
+use Rattle.gs_planfile.specs.declared.text.PlanText.{PlanText}
+use Rattle.gs_plan.specs.declared.edge.EdgeNumbers.{EdgeNumbers}
+use Rattle.gs_plan.specs.declared.edge.EdgeText.{EdgeText}
+use Rattle.gs_plan.specs.Edges.{edge_text, edge_texts, own_text, span_between, span_text}
+use Rattle.gs_plan.specs.Kept.{lengths_in}
+use Rattle.gs_plan.specs.Numbers.{kappa_between, kappa_in, numbers_in, numbers_of}
+use Rattle.gs_plan.proofs.Chain.{place_found}
+
+either : (a b : Bool) → a || b ≡ b || a
+either true true = refl
+either true false = refl
+either false true = refl
+either false false = refl
+
+-- a span names an edge either way round
+pub same_span : (spans : List EdgeSpan) (v w : ℕ) → span_between spans v w ≡ span_between spans w v
+same_span [] v w = refl
+same_span (s ∷ ss) v w = rw (either ((s.a == v) && (s.b == w)) ((s.a == w) && (s.b == v)), same_span ss v w) refl
+
+pub same_text : (t : PlanText) (v w : ℕ) → edge_text t (v, w) ≡ edge_text t (w, v)
+same_text t v w = ap (λ o. option_map_or span_text o (own_text t)) (same_span t.spans v w)
+
+-- what a plan says of an edge, by its two ends
+pub joined_text : (t : PlanText) (e : ℕ × ℕ) (v w : ℕ) → joins e v w ≡ true → edge_text t e ≡ edge_text t (v, w)
+joined_text t e v w h = elim (joins-cases e v w h) [
+  | inl there ↦ let a : e.0 ≡ v = there.0 in let b : e.1 ≡ w = there.1 in ap (λ x. edge_text t (x, e.1)) a ∙ ap (λ x. edge_text t (v, x)) b
+  | inr back ↦ let a : e.0 ≡ w = back.0 in let b : e.1 ≡ v = back.1 in ap (λ x. edge_text t (x, e.1)) a ∙ ap (λ x. edge_text t (w, x)) b ∙ same_text t w v
+]
+
+-- the place of an edge, and what the plan says there
+pub text_at : (t : PlanText) (g : Graph) (v w e : ℕ) (d : EdgeText) → number_of g v w ≡ Some e → (e < length (edge_texts t g)) × (get_or (edge_texts t g) e d ≡ edge_text t (v, w))
+text_at t g v w e d found =
+    let at = position-Some (λ x. joins x v w) g.edges e (0, 0) found in
+    let inside : e < length g.edges = at.0 in
+    (rw (length-map g.edges (edge_text t)) inside, get_or-map (edge_text t) g.edges e (0, 0) d inside ∙ joined_text t (get_or g.edges e (0, 0)) v w at.1)
+
+-- the numbers at that place
+pub numbers_at : (t : PlanText) (g : Graph) (v w e : ℕ) (d : EdgeNumbers) → number_of g v w ≡ Some e → (e < length (numbers_of t g)) × (get_or (numbers_of t g) e d ≡ numbers_in t (edge_text t (v, w)))
+numbers_at t g v w e d found =
+    let at = text_at t g v w e (own_text t) found in
+    let inside : e < length (edge_texts t g) = at.0 in
+    (rw (length-map (edge_texts t g) (numbers_in t)) inside, get_or-map (numbers_in t) (edge_texts t g) e (own_text t) d inside ∙ ap (numbers_in t) at.1)
+
+-- neighbours have an edge
+pub has_number : (g : Graph) (v w : ℕ) → Adjacent g v w → (e : ℕ) × (number_of g v w ≡ Some e)
+has_number g v w next = pick (number_of g v w) refl (place_found (λ x. joins x v w) g.edges ∙ next) where
+  pick : (o : Option ℕ) → number_of g v w ≡ o → is_some o ≡ true → (e : ℕ) × (number_of g v w ≡ Some e)
+  pick None is h = absurd (cc)
+  pick (Some e) is h = (e, is)
+
+-- the length between neighbours is the kappa of their edge
+pub length_is : (t : PlanText) (g : Graph) (v w : ℕ) → Adjacent g v w → length_between (lengths_in t g) v w ≡ kappa_between t v w
+length_is t g v w next =
+    let found = has_number g v w next in
+    let at = numbers_at t g v w found.0 (numbers_in t (own_text t)) found.1 in
+    let here : slice_index (map (λ n. n.kappa) (numbers_of t g)) found.0 ≡ kappa_in t (edge_text t (v, w)) =
+    get_or-map (λ (n : EdgeNumbers). n.kappa) (numbers_of t g) found.0 (numbers_in t (own_text t)) 0 at.0 ∙ ap (λ (n : EdgeNumbers). n.kappa) at.1 in
+    ap (λ o. option_map_or (slice_index (lengths_in t g).lengths) o 0) found.1 ∙ here
+
+-- lengths that agree on steps agree on walks
+pub same_sum : (adj : ℕ → ℕ → Type 0) (n : ℕ) (k m : ℕ → ℕ → ℕ) → ((v w : ℕ) → adj v w → k v w ≡ m v w) → (v w : ℕ) (xs : List ℕ) → IsWalk adj n v xs w → length_of k v xs ≡ length_of m v xs
+same_sum adj n k m same v w [] walk = refl
+same_sum adj n k m same v w (x ∷ xs) walk =
+    let first = same v x walk.0 in
+    let rest = same_sum adj n k m same x w xs walk.2 in
+    rw (first, rest) refl
+
+-- and have the same least sums
+pub same_least : (adj : ℕ → ℕ → Type 0) (n : ℕ) (k m : ℕ → ℕ → ℕ) → ((v w : ℕ) → adj v w → k v w ≡ m v w) → (v w d : ℕ) → IsLeast adj n k v w d → IsLeast adj n m v w d
+same_least adj n k m same v w d least = record {
+  some = (least.some.0, least.some.1, sym (same_sum adj n k m same v w least.some.0 least.some.1) ∙ least.some.2);
+  each = λ xs walk. rw (← same_sum adj n k m same v w xs walk) (least.each xs walk);
+}
+
+-- the weights of a plan's graph are least sums of its kappas
+pub weight_is : (t : PlanText) (g : Graph) (v w d : ℕ) → IsLeast (Adjacent g) g.nodes (length_between (lengths_in t g)) v w d → IsLeast (Adjacent g) g.nodes (kappa_between t) v w d
+weight_is t g v w d = same_least (Adjacent g) g.nodes (length_between (lengths_in t g)) (kappa_between t) (length_is t g) v w d
+
+-- what holds of the value of an option
+pub if_some : {X : Type 0} (P : X → Type 0) {o : Option X} {x : X} → o ≡ Some x → P x → IfSome o P
+if_some P e h = subst (λ o. IfSome o P) (sym e) h
+
+-- a kappa of an edge fits where the greatest does
+pub edge_fits : (t : PlanText) (g : Graph) (e : ℕ) (n : EdgeNumbers) (kmax : ℕ) → slice_get (numbers_of t g) e ≡ Some n → kmax ≡ kappa_most t g → 2 * t.levels * kmax < 2 ^ 62 → 2 * t.levels * n.kappa < 2 ^ 62
+edge_fits t g e n kmax found most fits =
+    let within : e < length (numbers_of t g) = slice_get_within (numbers_of t g) e n found in
+    let inside : e < length (edge_texts t g) = rw (← length-map (edge_texts t g) (numbers_in t)) within in
+    let here : get_or (numbers_of t g) e n ≡ n = get_or_from_slice_get (numbers_of t g) e n n found in
+    let is : get_or (numbers_of t g) e n ≡ numbers_in t (get_or (edge_texts t g) e (own_text t)) = get_or-map (numbers_in t) (edge_texts t g) e (own_text t) n inside in
+    let kappa : n.kappa ≡ kappa_in t (get_or (edge_texts t g) e (own_text t)) = ap (λ (x : EdgeNumbers). x.kappa) (sym here ∙ is) in
+    let below = each_below (kappa_in t) t g e (own_text t) inside in
+    let low : n.kappa ≤ kmax = rw (kappa, most) below in
+    let less : 2 * t.levels * n.kappa ≤ 2 * t.levels * kmax = mul-le-mul_left (2 * t.levels) low in
+    omega (arith, less, fits)

@@ -1,0 +1,11 @@
+pub mod Shapes
+pub mod Edges
+pub mod Numbers
+pub mod Levels
+pub mod Bounds
+pub mod Faults
+pub mod Accepted
+pub mod Kept
+pub mod Sets
+pub mod Nodes
+pub mod Plans

@@ -1,0 +1,80 @@
+-- The numbers of a plan's rate and of its edges.
+use Rattle.std.specs.Prelude.{ℕ, ◌+◌, ◌-◌, ◌*◌, ◌/◌, List, map, unwrap_or}
+use Rattle.std.specs.Int.{div_ceil}
+use Rattle.gs_units.specs.Accepted.{boosted, crept}
+use Rattle.gs_planfile.specs.declared.text.PlanText.{PlanText}
+use Rattle.gs_topo.specs.Graph.{Graph}
+use Rattle.gs_plan.specs.Edges.{edge_text, edge_texts}
+use Rattle.gs_plan.specs.declared.edge.EdgeText.{EdgeText}
+use Rattle.gs_plan.specs.declared.edge.EdgeNumbers.{EdgeNumbers}
+
+-- r: how far two hardware clocks may drift apart in one quantum
+abbrev pub r_in : PlanText → ℕ
+r_in t = t.hi - t.lo
+
+-- q: the least boost of one quantum
+abbrev pub q_in : PlanText → ℕ
+q_in t = boosted t.mu t.lo
+
+-- g: the least creep of one quantum
+abbrev pub g_in : PlanText → ℕ
+g_in t = crept t.lo t.hi t.lo
+
+-- the greatest that one quantum adds to a logical clock
+abbrev pub top_in : PlanText → ℕ
+top_in t = t.hi + boosted t.mu t.hi + 1
+
+-- how often the drift of one quantum goes into the boost
+abbrev pub sigma_in : PlanText → ℕ
+sigma_in t = q_in t / r_in t
+
+-- how far two logical clocks may drift apart in one quantum
+abbrev pub drift_in : PlanText → ℕ
+drift_in t = top_in t - t.lo
+
+-- how far ahead the maximum has to be for a node to be fast by itself
+abbrev pub iota_in : PlanText → ℕ
+iota_in t = drift_in t * t.tick + 1
+
+-- j: how far the delays of an edge spread, in clock units
+abbrev pub spread_in : PlanText → EdgeText → ℕ
+spread_in t e = t.lo * (e.delay_max - e.delay_min)
+
+-- what a beacon's maximum is raised by for its way
+abbrev pub jump_in : PlanText → EdgeText → ℕ
+jump_in t e = t.lo * e.delay_min
+
+-- what a beacon's clock is raised by for its way
+abbrev pub comp_in : PlanText → EdgeText → ℕ
+comp_in t e = jump_in t e + spread_in t e / 2
+
+-- how far an offset may be off when it is used
+abbrev pub delta_in : PlanText → EdgeText → ℕ
+delta_in t e = drift_in t * (t.age + t.tick) + div_ceil (spread_in t e) 2
+
+-- the least kappa that an edge may have
+abbrev pub least_kappa_in : PlanText → EdgeText → ℕ
+least_kappa_in t e = 2 * delta_in t e + 1
+
+-- the skew that one level allows at an edge: the given one, else the least
+abbrev pub kappa_in : PlanText → EdgeText → ℕ
+kappa_in t e = unwrap_or e.kappa (least_kappa_in t e)
+
+-- all numbers of an edge
+abbrev pub numbers_in : PlanText → EdgeText → EdgeNumbers
+numbers_in t e = record {
+  delay_min = e.delay_min;
+  delay_max = e.delay_max;
+  kappa = kappa_in t e;
+  delta = delta_in t e;
+  comp = comp_in t e;
+  jump = jump_in t e;
+}
+
+-- the numbers of all edges of a graph, in their order
+abbrev pub numbers_of : PlanText → Graph → List EdgeNumbers
+numbers_of t g = map (numbers_in t) (edge_texts t g)
+
+-- the skew that one level allows between two neighbours
+abbrev pub kappa_between : PlanText → ℕ → ℕ → ℕ
+kappa_between t v w = kappa_in t (edge_text t (v, w))

@@ -1,0 +1,226 @@
+ghost use Rattle.std.specs.Prelude.{◌≡◌, ◌≢◌, ◌<◌, ◌≤◌, ◌^◌, ◌*◌, ◌+◌, [], false, Err, IfErr, IfOk, None, OnOk, Some, is_some, length, map, nat_lt, option_map};
+ghost use Rattle.std.specs.List.{list_any};
+ghost use Rattle.gs_units.specs.Rates.{HasNumbers};
+ghost use Rattle.gs_units.specs.Faults.{rate_fault};
+ghost use Rattle.gs_planfile.specs.declared.text.PlanText.{PlanText};
+ghost use Rattle.gs_topo.specs.Faults.{fault_of};
+ghost use Rattle.gs_topo.specs.Graph.{adjacent};
+ghost use Rattle.gs_plan.specs.Accepted.{IsAccepted};
+ghost use Rattle.gs_plan.specs.Bounds.{global_in, kappa_most};
+ghost use Rattle.gs_plan.specs.Edges.{edge_texts, own_text, span_between, span_text};
+ghost use Rattle.gs_plan.specs.Faults.{are_bad_delays, are_bad_ports, are_low_kappas, beacon_bound, fault_over, fault_where, is_bad_span, is_low_kappa, is_one, is_outside, is_wide, plan_fault, span_fault};
+ghost use Rattle.gs_plan.specs.Numbers.{kappa_in, numbers_in};
+ghost use Rattle.gs_plan.specs.Plans.{text_of};
+ghost use Rattle.gs_plan.specs.Shapes.{graph_of_text, shape_edges, shape_nodes};
+
+use crate::bounds::{global, greatest_delay, greatest_kappa};
+use crate::edge::{EdgeText, edge_texts, own_text, span_between, span_text};
+use crate::fault::PlanFault;
+use crate::numbers::least_kappa;
+use crate::plan::Plan;
+use crate::shape::topology_of;
+use gs_planfile::{EdgeSpan, PlanText, Version};
+use gs_topo::Topology;
+use gs_units::{END, Rate};
+use std::alloc::Global;
+
+/// The fault where the test holds.
+fn refuse(test: bool, fault: PlanFault) -> Result<(), PlanFault>
+    ensures ok { OnOk result (test ≡ false) }
+    ensures err { IfErr result (λ e. fault_where test fault ≡ Some e) }
+{
+    if test { Err(fault) } else { Ok(()) }
+}
+
+/// Whether `x` is outside of `low` to `high`.
+fn is_outside(low: u32, high: u32, x: u32) -> bool
+    ensures { result ≡ is_outside low high x }
+{
+    x < low || high < x
+}
+
+/// Whether delays are out of order or out of range.
+fn are_bad_delays(least: u32, greatest: u32) -> bool
+    ensures { result ≡ are_bad_delays least greatest }
+{
+    greatest < least || is_outside(1, 65_536, greatest)
+}
+
+/// The rate of a plan.
+fn rate_of(text: &PlanText) -> Result<Rate, PlanFault>
+    ensures numbers { IfOk result (HasNumbers text.now.lo text.now.hi text.now.mu) }
+    ensures ok { OnOk result (rate_fault text.now.lo text.now.hi text.now.mu ≡ None) }
+    ensures err { IfErr result (λ e. option_map PlanFault.Rate (rate_fault text.now.lo text.now.hi text.now.mu) ≡ Some e) }
+{
+    match Rate::new(text.lo, text.hi, text.mu) {
+        Ok(rate) => Ok(rate),
+        Err(fault) => Err(PlanFault::Rate(fault)),
+    }
+}
+
+/// Whether an edge joins `v` and `w`.
+#[tactic(auto, using(crate::proofs::Chain::places))]
+fn is_edge(topo: &Topology, v: u32, w: u32) -> bool
+    ensures { result ≡ adjacent topo.now v w }
+{
+    topo.edge_between(v, w).is_some()
+}
+
+/// Whether one of these spans names `v` and `w`.
+fn is_named(spans: &[EdgeSpan], v: u32, w: u32) -> bool
+    ensures { result ≡ is_some (span_between spans.now v w) }
+{
+    span_between(spans, v, w).is_some()
+}
+
+/// Whether the version has no spans.
+fn is_one(version: Version) -> bool
+    ensures { result ≡ is_one version }
+{
+    match version {
+        Version::One => true,
+        Version::Two => false,
+    }
+}
+
+/// Whether a span is at fault, where these spans stand before it.
+fn is_bad_span(version: Version, topo: &Topology, earlier: &[EdgeSpan], span: EdgeSpan) -> bool
+    ensures { result ≡ is_bad_span version topo.now earlier.now span }
+{
+    is_one(version)
+        || !is_edge(topo, span.a, span.b)
+        || is_named(earlier, span.a, span.b)
+        || are_bad_delays(span.delay_min, span.delay_max)
+}
+
+/// Refuses the first span that is at fault.
+#[tactic(auto, using(crate::proofs::Chain::spans))]
+fn check_spans(text: &PlanText, topo: &Topology) -> Result<(), PlanFault>
+    ensures ok { OnOk result (span_fault text.now.version topo.now 0 [] text.now.spans ≡ None) }
+    ensures err { IfErr result (λ e. e ≢ PlanFault.OutOfMemory → span_fault text.now.version topo.now 0 [] text.now.spans ≡ Some e) }
+{
+    let version = text.version;
+    let spans = text.spans.as_slice();
+    for i in 0..spans.len() {
+        if is_bad_span(version, topo, &spans[..i], spans[i]) {
+            // No memory holds 2^32 spans.
+            return match u32::try_from(i) {
+                Ok(number) => Err(PlanFault::Span(number)),
+                Err(_) => Err(PlanFault::OutOfMemory),
+            };
+        }
+    }
+    Ok(())
+}
+
+/// The greatest gap between beacons of a node that are not lost, in quanta.
+fn beacon_gap(losses: u32, every: u32, tick: u32) -> u128
+    ensures value { result ≡ (losses + 1) * every * tick }
+    ensures small { result < 2 ^ 97 }
+{
+    (u128::from(losses) + 1) * u128::from(every) * u128::from(tick)
+}
+
+/// The least age that lets beacons come in time, whatever is lost.
+fn beacon_bound(text: &PlanText, topo: &Topology, edges: &[EdgeText]) -> u128
+    requires { edges.now ≡ edge_texts text.now topo.now }
+    ensures { result ≡ beacon_bound text.now topo.now }
+{
+    beacon_gap(text.losses, text.every, text.tick) + u128::from(greatest_delay(text, topo, edges))
+}
+
+/// Whether the ports of nodes are out of range.
+fn are_bad_ports(text: &PlanText, topo: &Topology) -> bool
+    ensures { result ≡ are_bad_ports text.now topo.now }
+{
+    let edges = topo.edges().len() as u64;
+    text.port < 1024 || u64::from(text.port) + 2 * edges + u64::from(topo.nodes()) > 65_536
+}
+
+/// Whether a kappa is given and too low.
+fn is_low_kappa(text: &PlanText, rate: Rate, edge: EdgeText) -> bool
+    requires { HasNumbers text.now.lo text.now.hi text.now.mu rate }
+    ensures { result ≡ is_low_kappa text.now edge }
+{
+    match edge.kappa {
+        Some(kappa) => u128::from(kappa) < least_kappa(text, rate, edge),
+        None => false,
+    }
+}
+
+/// Whether the kappa of a span is too low.
+fn is_low_span(text: &PlanText, rate: Rate) -> bool
+    requires { HasNumbers text.now.lo text.now.hi text.now.mu rate }
+    ensures { result ≡ list_any (λ s. is_low_kappa text.now (span_text s)) text.now.spans }
+{
+    let spans = text.spans.as_slice();
+    spans
+        .iter()
+        .any(|span| is_low_kappa(text, rate, span_text(span)))
+}
+
+/// Whether the plan's kappa or that of a span is too low.
+fn are_low_kappas(text: &PlanText, rate: Rate) -> bool
+    requires { HasNumbers text.now.lo text.now.hi text.now.mu rate }
+    ensures { result ≡ are_low_kappas text.now }
+{
+    is_low_kappa(text, rate, own_text(text)) || is_low_span(text, rate)
+}
+
+/// Whether the bounds reach the end of clocks.
+fn is_wide(text: &PlanText, rate: Rate, topo: &Topology, edges: &[EdgeText]) -> bool
+    requires rate { HasNumbers text.now.lo text.now.hi text.now.mu rate }
+    requires edges { edges.now ≡ edge_texts text.now topo.now }
+    ensures { result ≡ is_wide text.now topo.now }
+{
+    let kappa = greatest_kappa(text, rate, topo, edges);
+    let levels = u128::from(text.levels);
+    2 * levels * kappa + global(text, rate, topo, edges) >= u128::from(END)
+}
+
+/// What the plan says of its edges, where it has no fault over its graph.
+#[tactic(auto, using(crate::proofs::Accepting::accepted_of))]
+fn checked_edges(
+    alloc: Global,
+    text: &PlanText,
+    rate: Rate,
+    topo: &Topology,
+) -> Result<Vec<EdgeText>, PlanFault>
+    requires { HasNumbers text.now.lo text.now.hi text.now.mu rate }
+    ensures edges { IfOk result (λ edges. edges.items ≡ edge_texts text.now topo.now) }
+    ensures ok { OnOk result (fault_over text.now topo.now ≡ None) }
+    ensures accepted { OnOk result (IsAccepted text.now topo.now) }
+    ensures err { IfErr result (λ e. e ≢ PlanFault.OutOfMemory → fault_over text.now topo.now ≡ Some e) }
+{
+    refuse(is_outside(1, 65_536, text.tick), PlanFault::Tick)?;
+    refuse(
+        are_bad_delays(text.delay_min, text.delay_max),
+        PlanFault::Delay,
+    )?;
+    check_spans(text, topo)?;
+    let edges = edge_texts(alloc, text, topo)?;
+    refuse(is_outside(1, 1024, text.every), PlanFault::Every)?;
+    refuse(text.losses > 1024, PlanFault::Losses)?;
+    let bound = beacon_bound(text, topo, &edges);
+    refuse(u128::from(text.age) < bound, PlanFault::Age)?;
+    refuse(is_outside(1, 32, text.levels), PlanFault::Levels)?;
+    refuse(are_bad_ports(text, topo), PlanFault::Port)?;
+    refuse(rate.q() < 2 * rate.r(), PlanFault::Weak)?;
+    refuse(are_low_kappas(text, rate), PlanFault::Kappa)?;
+    refuse(is_wide(text, rate, topo, &edges), PlanFault::Wide)?;
+    Ok(edges)
+}
+
+/// Checks a plan: the numbers of its text against their ranges and against each other, in the order
+/// of the variants of `PlanFault`. See `docs/MODEL.md`, "The numbers of a plan".
+#[tactic(auto, unfolding(crate::specs::Faults::plan_fault))]
+pub fn check(alloc: Global, text: &PlanText) -> Result<Plan, PlanFault>
+    ensures text { IfOk result (λ plan. text_of plan ≡ text.now) }
+    ensures ok { OnOk result (plan_fault text.now ≡ None) }
+    ensures err { IfErr result (λ e. e ≢ PlanFault.OutOfMemory → plan_fault text.now ≡ Some e) }
+{
+    let rate = rate_of(text)?;
+    let topo = topology_of(alloc, text)?;
+    let edges = checked_edges(alloc, text, rate, &topo)?;
+    Ok(Plan::of(alloc, text, rate, topo, &edges)?)
+}

@@ -1,0 +1,21 @@
+//! Plans: the numbers of a network, checked, and the bounds on the skew that follow from them.
+#![tactic(auto)]
+
+pub use checking::check;
+pub use edge::EdgeNumbers;
+pub use fault::PlanFault;
+pub use laws::accepted_plans;
+pub use plan::Plan;
+
+mod bounds;
+mod checking;
+mod copy;
+mod edge;
+mod fault;
+mod laws;
+mod levels;
+mod numbers;
+mod plan;
+mod shape;
+#[cfg(test)]
+mod tests;

@@ -1,0 +1,274 @@
+ghost use Rattle.std.specs.Prelude.{◌≡◌, ◌<◌, ◌≤◌, ◌*◌, ◌+◌, ◌^◌, ◌-◌, IfOk, IfSome, IsTrue, None, Some, is_none, length, map, slice_get};
+ghost use Rattle.gs_units.specs.Rates.{HasNumbers};
+ghost use Rattle.gs_plan.specs.Shapes.{graph_of_text};
+ghost use Rattle.gs_plan.specs.Faults.{plan_fault};
+ghost use Rattle.gs_plan.specs.Numbers.{numbers_of};
+ghost use Rattle.gs_plan.specs.Sets.{graphs-prop, lengths-prop, numbers-prop};
+ghost use Rattle.gs_plan.specs.Kept.{AreGreatest, AreLevels, AreOwn, lengths_in};
+
+use crate::bounds::{global, greatest_kappa, lambda};
+use crate::copy::text_copy;
+use crate::edge::{EdgeNumbers, EdgeText, own_text};
+use crate::levels::Levels;
+use crate::numbers::{all_numbers, edge_numbers, iota, kappas};
+use gs_planfile::PlanText;
+use gs_topo::{Topology, Weights};
+use gs_units::{Link, Links, NodeParams, Rate};
+use std::alloc::{AllocError, Global};
+
+/// A plan that was accepted, with its numbers. Every value of this type was accepted by `check`.
+#[derive(Drop)]
+pub struct Plan {
+    text: PlanText,
+    rate: Rate,
+    topo: Topology,
+    /// The numbers of an edge without a span.
+    own: EdgeNumbers,
+    edges: Vec<EdgeNumbers>,
+    weights: Weights,
+    /// The greatest kappa of all.
+    kappa: u64,
+    lambda: u64,
+    iota: u64,
+    levels: Levels,
+    pub ghost accepted: { IsTrue (is_none (plan_fault text)) },
+    pub ghost rates: { HasNumbers text.lo text.hi text.mu rate },
+    pub ghost graph: { topo ≡ graph_of_text text } by { graphs-prop topo (graph_of_text text) },
+    ghost own_numbers: { AreOwn text own },
+    ghost each: { edges.items ≡ numbers_of text topo } by { numbers-prop edges.items (numbers_of text topo) },
+    ghost lengths: { weights ≡ lengths_in text topo } by { lengths-prop weights (lengths_in text topo) },
+    ghost greatest: { AreGreatest text topo kappa lambda iota },
+    ghost bounds: { AreLevels text topo levels },
+}
+
+#[tactic(auto, using(crate::proofs::Keeping::facts))]
+impl Plan {
+    ghost use Rattle.gs_plan.specs.Plans.{text_of, graph_of, rate_of};
+    ghost use Rattle.gs_plan.specs.Accepted.{IsAccepted};
+    ghost use Rattle.gs_plan.specs.Levels.{IsBest};
+    ghost use Rattle.gs_plan.specs.Nodes.{link_in, params_in};
+    ghost use Rattle.gs_units.specs.Params.{AreValid};
+    ghost use Rattle.gs_topo.specs.Graph.{Adjacent, neighbours_of};
+    ghost use Rattle.gs_topo.specs.Walks.{IsLeast};
+    ghost use Rattle.gs_plan.specs.Edges.{edge_texts, own_text};
+    ghost use Rattle.gs_plan.specs.Numbers.{comp_in, delta_in, iota_in, jump_in, kappa_between, kappa_in};
+    ghost use Rattle.gs_plan.specs.Bounds.{best_in, best_edge_in, kappa_most, lambda_in, level_in, local_in};
+
+    /// The plan of a text that has no fault.
+    pub(crate) fn of(
+        alloc: Global,
+        text: &PlanText,
+        rate: Rate,
+        topo: Topology,
+        edges: &[EdgeText],
+    ) -> Result<Plan, AllocError>
+        requires rate { HasNumbers text.now.lo text.now.hi text.now.mu rate }
+        requires graph { topo ≡ graph_of_text text.now }
+        requires edges { edges.now ≡ edge_texts text.now topo }
+        requires no_fault { plan_fault text.now ≡ None }
+        requires accepted { IsAccepted text.now topo }
+        ensures { IfOk result (λ plan. text_of plan ≡ text.now) }
+    {
+        let own = edge_numbers(text, rate, own_text(text));
+        let numbers = all_numbers(alloc, text, rate, edges)?;
+        let weights = Weights::new(alloc, &topo, &kappas(alloc, &numbers)?)?;
+        let kappa = greatest_kappa(text, rate, &topo, edges) as u64;
+        let lambda = lambda(text, rate, &topo, edges) as u64;
+        let iota = iota(text, rate) as u64;
+        let levels = Levels {
+            first: global(text, rate, &topo, edges) as u64,
+            sigma: rate.sigma(),
+            r: rate.r(),
+            last: text.levels,
+        };
+        Ok(Plan {
+            text: text_copy(alloc, text)?,
+            rate,
+            topo,
+            own,
+            edges: numbers,
+            weights,
+            kappa,
+            lambda,
+            iota,
+            levels,
+        })
+    }
+
+    /// The graph.
+    pub fn topo(&self) -> &Topology
+        ensures { result.now ≡ graph_of self.now }
+    {
+        &self.topo
+    }
+
+    /// The rate of clocks.
+    pub fn rate(&self) -> &Rate
+        ensures { result.now ≡ rate_of self.now }
+    {
+        &self.rate
+    }
+
+    /// The text that the plan was made of.
+    pub fn text(&self) -> &PlanText
+        ensures { result.now ≡ text_of self.now }
+    {
+        &self.text
+    }
+
+    /// The plan's own kappa: the skew that one level allows at an edge without a span, in clock units.
+    pub fn kappa(&self) -> u64
+        ensures { result ≡ kappa_in (text_of self.now) (own_text (text_of self.now)) }
+    {
+        self.own.kappa
+    }
+
+    /// How far an offset over an edge without a span may be off when it is used, in clock units.
+    pub fn delta(&self) -> u64
+        ensures { result ≡ delta_in (text_of self.now) (own_text (text_of self.now)) }
+    {
+        self.own.delta
+    }
+
+    /// What a beacon's clock is raised by for its way over an edge without a span, in clock units.
+    pub fn comp(&self) -> u64
+        ensures { result ≡ comp_in (text_of self.now) (own_text (text_of self.now)) }
+    {
+        self.own.comp
+    }
+
+    /// What a beacon's maximum is raised by for its way over an edge without a span, in clock units.
+    pub fn jump(&self) -> u64
+        ensures { result ≡ jump_in (text_of self.now) (own_text (text_of self.now)) }
+    {
+        self.own.jump
+    }
+
+    /// How far the maximum has to be ahead of the clock, in clock units, for a node that neither
+    /// trigger holds to be fast.
+    pub fn iota(&self) -> u64
+        ensures { result ≡ iota_in (text_of self.now) }
+    {
+        self.iota
+    }
+
+    /// How far the maximum of a node may lag behind the greatest clock, in clock units.
+    pub fn lambda(&self) -> u64
+        ensures { result ≡ lambda_in (text_of self.now) (graph_of self.now) }
+    {
+        self.lambda
+    }
+
+    /// The greatest kappa of the plan and its edges, in clock units.
+    pub fn greatest_kappa(&self) -> u64
+        ensures { result ≡ kappa_most (text_of self.now) (graph_of self.now) }
+    {
+        self.kappa
+    }
+
+    /// The bound of level `s`, in clock units. Level 0 bounds the difference of any two clocks.
+    pub fn g_level(&self, s: u32) -> u64
+        requires { s ≤ (text_of self.now).levels }
+        ensures { result ≡ level_in (text_of self.now) (graph_of self.now) s }
+    {
+        self.levels.bound(s)
+    }
+
+    /// The bound that level `s` gives for the difference of the ends of any edge, in clock units.
+    pub fn local(&self, s: u32) -> u64
+        requires { s ≤ (text_of self.now).levels }
+        ensures { result ≡ local_in (text_of self.now) (graph_of self.now) s }
+    {
+        self.levels.skew(self.kappa, s)
+    }
+
+    /// The first level whose bound for any edge is least, and that bound in clock units.
+    pub fn best(&self) -> (u32, u64)
+        ensures value { result ≡ best_in (text_of self.now) (graph_of self.now) }
+        ensures best { IsBest (local_in (text_of self.now) (graph_of self.now)) (text_of self.now).levels result }
+    {
+        self.best_of(self.kappa)
+    }
+
+    /// The numbers of the edge of this number.
+    pub fn edge(&self, e: u32) -> EdgeNumbers
+        requires { e < length (graph_of self.now).edges }
+        ensures { slice_get (numbers_of (text_of self.now) (graph_of self.now)) e ≡ Some result }
+    {
+        self.edges[e as usize]
+    }
+
+    /// The first level whose bound for the edge of this number is least, and that bound in clock
+    /// units.
+    pub fn best_edge(&self, e: u32) -> (u32, u64)
+        requires { e < length (graph_of self.now).edges }
+        ensures { IfSome (slice_get (numbers_of (text_of self.now) (graph_of self.now)) e)
+            (λ edge. result ≡ best_edge_in (text_of self.now) (graph_of self.now) edge.kappa) }
+    {
+        self.best_of(self.edge(e).kappa)
+    }
+
+    /// The same for an edge of this kappa.
+    fn best_of(&self, kappa: u64) -> (u32, u64)
+        requires { 2 * (text_of self.now).levels * kappa < 2 ^ 62 }
+        ensures { result ≡ best_edge_in (text_of self.now) (graph_of self.now) kappa }
+    {
+        self.levels.best(kappa)
+    }
+
+    /// The least sum of the kappas of the edges of a walk from `v` to `w`, in clock units.
+    pub fn weight(&self, v: u32, w: u32) -> u128
+        requires { (v < (graph_of self.now).nodes) × (w < (graph_of self.now).nodes) }
+        ensures { IsLeast (Adjacent (graph_of self.now)) (graph_of self.now).nodes (kappa_between (text_of self.now)) v w result }
+    {
+        self.weights.weight(v, w)
+    }
+
+    /// What node `v` is told before it runs: each of its links has the numbers of its edge.
+    pub fn node(&self, alloc: Global, v: u32) -> Result<NodeParams, AllocError>
+        requires { v < (graph_of self.now).nodes }
+        ensures value { IfOk result (λ params. params ≡ params_in (text_of self.now) (graph_of self.now) (rate_of self.now) v) }
+        ensures valid { IfOk result AreValid }
+    {
+        Ok(NodeParams {
+            cluster: self.text.cluster,
+            node: v,
+            links: Links::from_vec(self.links(alloc, v)?),
+            rate: self.rate,
+            iota: self.iota,
+            every: self.text.every,
+        })
+    }
+
+    /// The links of `v` in ascending order of its neighbours.
+    fn links(&self, alloc: Global, v: u32) -> Result<Vec<Link>, AllocError>
+        requires { v < (graph_of self.now).nodes }
+        ensures { IfOk result (λ links. links.items ≡ map (link_in (text_of self.now) v) (neighbours_of (graph_of self.now) v)) }
+    {
+        let mut links = Vec::new(alloc);
+        for x in self.topo.neighbours(v) {
+            links.push(self.link(v, *x))?;
+        }
+        Ok(links)
+    }
+
+    /// The link from `v` to its neighbour `x`.
+    fn link(&self, v: u32, x: u32) -> Link
+        requires { Adjacent (graph_of self.now) v x }
+        ensures { result ≡ link_in (text_of self.now) v x }
+    {
+        match self.topo.edge_between(v, x) {
+            Some(e) => {
+                let edge = self.edges[e as usize];
+                Link {
+                    node: x,
+                    comp: edge.comp,
+                    jump: edge.jump,
+                    kappa: edge.kappa,
+                    delta: edge.delta,
+                }
+            }
+            None => unreachable!(),
+        }
+    }
+}
