@@ -9,7 +9,7 @@ use Rattle.gs_units.specs.declared.rate.Rate.{Rate}
 use Rattle.gs_beacon.specs.declared.beacon.Beacon.{Beacon}
 use Rattle.gs_estimate.specs.Entries.{entry_at, is_fresh, offset_of}
 use Rattle.gs_estimate.specs.declared.slots.Entry.{Entry}
-use Rattle.gs_maximum.specs.Maximum.{raised_to, maximum_of as estimate_of}
+use Rattle.gs_maximum.specs.Maximum.{raised_to, maximum_of as value_of}
 use Rattle.gs_maximum.specs.declared.maximum.Max.{Max}
 use Rattle.gs_steer.specs.Modes.{mode_of}
 use Rattle.gs_trigger.specs.Sights.{Sight}
@@ -46,7 +46,7 @@ clock_of rate n now = n.l + steer_of rate n.mode (now - n.at)
 
 -- rule 2: the estimate of the greatest clock at a reading
 abbrev pub maximum_of : Rate → Node → ℕ → ℕ
-maximum_of rate n now = estimate_of rate n.max now (clock_of rate n now)
+maximum_of rate n now = value_of rate n.max now (clock_of rate n now)
 
 -- what a tick decides by: each link with the offset of its neighbour, and the maximum
 pub record Decision : Type 0 where
