@@ -1,0 +1,5 @@
+pub mod Node
+pub mod Steps
+pub mod Replays
+pub mod State
+pub mod Seen

@@ -1,0 +1,31 @@
+use gs_beacon::Beacon;
+use gs_units::Mode;
+
+/// What a tick answers.
+#[derive(Clone, Copy, Debug, PartialEq, Eq)]
+pub struct Ticked {
+    /// The clock at the tick, in clock units.
+    pub l: u64,
+    /// What the node knew of the greatest clock at the tick, in clock units.
+    pub m: u64,
+    /// The mode from this tick on.
+    pub mode: Mode,
+    /// What the neighbours are to be sent, where a beacon is due.
+    pub beacon: Option<Beacon>,
+}
+
+/// The first thing that keeps a node from an event.
+#[derive(Clone, Copy, Debug, PartialEq, Eq)]
+pub enum CoreFault {
+    /// The beacon is of another cluster.
+    Cluster,
+    /// The beacon is of this node, and it is no neighbour.
+    Stranger(u32),
+    /// The reading is below one that the node was given before.
+    Backward { last: u64, now: u64 },
+    /// The reading, the clock or the maximum reaches `END`, or the last sequence was given to a beacon
+    /// and one is due.
+    Far,
+    /// What the beacon tells reaches `END` when it is raised for its way.
+    Ahead,
+}
