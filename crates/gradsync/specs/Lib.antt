@@ -1,5 +1,6 @@
 pub mod Answers
 pub mod Commands
+pub mod Completeness
 pub mod GivenSeen
 pub mod Meaning
 pub mod Pair

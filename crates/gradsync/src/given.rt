@@ -26,7 +26,11 @@ fn base_count(word: &str) -> Option<&str>
 }
 
 /// What a PLAN word gives. A word that names a built-in plan reads no file.
-pub fn plan_given<'w, F: Files>(alloc: Global, files: &mut F, word: &'w str) -> Result<Given<'w>, AllocError>
+pub fn plan_given<'w, F: Files>(
+    alloc: Global,
+    files: &mut F,
+    word: &'w str,
+) -> Result<Given<'w>, AllocError>
     ensures { IfOk result (λ given. IsGiven (F.content files.old) (F.faults files.old) (F.faults files.new) word.now (given_in given)) }
 {
     match base_count(word) {

@@ -143,7 +143,12 @@ fn write_edge(text: &mut Lines, plan: &Plan, e: u32) -> Result<(), AllocError>
     write_edge_line(text, ends, &plan.edge(e), plan.best_edge(e))
 }
 
-fn write_edge_line(text: &mut Lines, ends: (u32, u32), edge: &EdgeNumbers, best: (u32, u64)) -> Result<(), AllocError>
+fn write_edge_line(
+    text: &mut Lines,
+    ends: (u32, u32),
+    edge: &EdgeNumbers,
+    best: (u32, u64),
+) -> Result<(), AllocError>
     ensures { OnOk result (text.new ≡ edge_line text.old ends edge.now best) }
 {
     write_number(text, "edge ", u128::from(ends.0))?;

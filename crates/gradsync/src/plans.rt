@@ -15,14 +15,12 @@ ghost use Rattle.gradsync.specs.Refusals.{file_why, plan_why};
 ghost use Rattle.gradsync.specs.Reply.{answer_in};
 ghost use Rattle.gradsync.specs.Stops.{StopsAt};
 
-use crate::command;
 use crate::given::Given;
-use crate::plan_text;
 use crate::reading::Reading;
-use crate::refusal;
 use crate::reply::Reply;
 use crate::status::Status;
 use crate::stop::Stop;
+use crate::{command, plan_text, refusal};
 use gs_plan::{Plan, PlanFault};
 use gs_planfile::{PlanFileFault, PlanText};
 use gs_text::Lines;
@@ -96,8 +94,18 @@ fn file_text(alloc: Global, name: &str, reading: &Reading) -> Result<PlanText, S
 {
     match reading {
         Reading::Bytes(bytes) => parsed(alloc, bytes),
-        Reading::TooLong => Err(Stop::Refused(name_line(alloc, Status::TooLong, "too long: ", name)?)),
-        Reading::Failed => Err(Stop::Refused(name_line(alloc, Status::ReadFault, "read failed: ", name)?)),
+        Reading::TooLong => Err(Stop::Refused(name_line(
+            alloc,
+            Status::TooLong,
+            "too long: ",
+            name,
+        )?)),
+        Reading::Failed => Err(Stop::Refused(name_line(
+            alloc,
+            Status::ReadFault,
+            "read failed: ",
+            name,
+        )?)),
     }
 }
 

@@ -17,10 +17,13 @@ pub enum Reading {
 }
 
 /// Reads the file of this name, of at most `most` bytes.
-pub fn read_file<F: Files>(alloc: Global, files: &mut F, name: &str, most: u64) -> Result<Reading, AllocError>
-    ensures reading {
-        IfOk result (λ reading. IsReading (F.content files.old) (F.faults files.old) (F.faults files.new) name.now most (read_in reading))
-    }
+pub fn read_file<F: Files>(
+    alloc: Global,
+    files: &mut F,
+    name: &str,
+    most: u64,
+) -> Result<Reading, AllocError>
+    ensures reading { IfOk result (λ reading. IsReading (F.content files.old) (F.faults files.old) (F.faults files.new) name.now most (read_in reading)) }
     ensures same { F.content files.new ≡ F.content files.old }
 {
     match files.read(alloc, name, most) {

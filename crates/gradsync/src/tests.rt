@@ -172,10 +172,30 @@ fn a_failing_sink_has_the_lines_before_it(rt: HostRuntime) -> Result<(), Fail> {
 fn a_plan_file_gives_its_bounds_or_what_is_wrong(rt: HostRuntime) -> Result<(), Fail> {
     for (name, text, status, written) in [
         ("line.toml", LINE, Status::Done, LINE_TEXT),
-        ("bytes.toml", "version = ", Status::PlanRefused, "plan refused: toml\n"),
-        ("empty.toml", "", Status::PlanRefused, "plan refused: missing version\n"),
-        ("v.toml", "version = 3\n", Status::PlanRefused, "plan refused: range version\n"),
-        ("c.toml", "version = 1\ncluster = true\n", Status::PlanRefused, "plan refused: kind cluster\n"),
+        (
+            "bytes.toml",
+            "version = ",
+            Status::PlanRefused,
+            "plan refused: toml\n",
+        ),
+        (
+            "empty.toml",
+            "",
+            Status::PlanRefused,
+            "plan refused: missing version\n",
+        ),
+        (
+            "v.toml",
+            "version = 3\n",
+            Status::PlanRefused,
+            "plan refused: range version\n",
+        ),
+        (
+            "c.toml",
+            "version = 1\ncluster = true\n",
+            Status::PlanRefused,
+            "plan refused: kind cluster\n",
+        ),
     ] {
         let line = format!(in rt.alloc(); "plan {name}")?;
         let (answered, out) = run_with(&rt, line.as_str(), &[(name, text.as_bytes())], &[], &[])?;
@@ -188,14 +208,34 @@ fn a_plan_file_gives_its_bounds_or_what_is_wrong(rt: HostRuntime) -> Result<(), 
 #[test]
 fn words_of_plans_are_answered_in_order(rt: HostRuntime) -> Result<(), Fail> {
     for (line, status, text) in [
-        ("plan missing.toml", Status::ReadFault, "read failed: missing.toml\n"),
-        ("migrate missing.toml", Status::ReadFault, "read failed: missing.toml\n"),
+        (
+            "plan missing.toml",
+            Status::ReadFault,
+            "read failed: missing.toml\n",
+        ),
+        (
+            "migrate missing.toml",
+            Status::ReadFault,
+            "read failed: missing.toml\n",
+        ),
         ("plan base:x", Status::PlanRefused, "plan refused: number\n"),
         ("plan base:", Status::PlanRefused, "plan refused: number\n"),
-        ("plan base:4294967296", Status::PlanRefused, "plan refused: number\n"),
+        (
+            "plan base:4294967296",
+            Status::PlanRefused,
+            "plan refused: number\n",
+        ),
         ("plan base:0", Status::PlanRefused, "plan refused: count\n"),
-        ("plan base:513", Status::PlanRefused, "plan refused: count\n"),
-        ("migrate base:513", Status::PlanRefused, "plan refused: count\n"),
+        (
+            "plan base:513",
+            Status::PlanRefused,
+            "plan refused: count\n",
+        ),
+        (
+            "migrate base:513",
+            Status::PlanRefused,
+            "plan refused: count\n",
+        ),
         ("plan base:33", Status::Done, LINE_TEXT),
     ] {
         let (answered, written) = run(&rt, line, &[])?;

@@ -3,15 +3,15 @@ ghost use Rattle.gs_text.specs.Numbers.{number_of};
 ghost use Rattle.gradsync.specs.Commands.{command_of};
 ghost use Rattle.gradsync.specs.Answers.{answer_play, played, reported, pair_count, steady_count};
 ghost use Rattle.gradsync.specs.Plans.{Given, IsGiven, IsMigrated, plan_from, planned};
+ghost use Rattle.gradsync.specs.Completeness.{Completes};
 ghost use Rattle.gradsync.specs.Runs.{IsAnswer, Runs};
 ghost use Rattle.gradsync.specs.Reply.{answer_in};
 
 use crate::command::{self, Command};
 use crate::given::plan_given;
-use crate::pair;
-use crate::plans;
 use crate::reply::Reply;
 use crate::status::Status;
+use crate::{pair, plans};
 use gs_io::{Files, Gate, Sink};
 use gs_units::Rate;
 use std::alloc::{AllocError, Global};
@@ -36,9 +36,10 @@ pub fn run_tool<F: Files, K: Sink, G: Gate>(
     out: &mut K,
     _gate: &G,
 ) -> Status
-    ensures runs {
-        Runs (record { content = F.content files.old; before = F.faults files.old; after = F.faults files.new }) (map string_bytes words.now) (K.bytes out.old) (K.bytes out.new) (K.faults out.old) (K.faults out.new) result
-    }
+    ensures runs { Runs (record { content = F.content files.old; before = F.faults files.old; after = F.faults files.new }) (map string_bytes words.now) (K.bytes out.old) (K.bytes out.new) (K.faults out.old) (K.faults out.new) result }
+
+    // With an accepted plan and no fault of the outside, the job is done or memory was short.
+    ensures completes { Completes (record { content = F.content files.old; before = F.faults files.old; after = F.faults files.new }) (map string_bytes words.now) (K.faults out.old) (K.faults out.new) result }
 
     // Words that are no command need no memory.
     ensures usage { command_of (map string_bytes words.now) ≡ None → (result ≡ Status.Usage) ⊎ (result ≡ Status.WriteFault) }
@@ -51,29 +52,27 @@ pub fn run_tool<F: Files, K: Sink, G: Gate>(
 
 /// The answer to the words of a command line.
 fn answer<F: Files>(alloc: Global, words: &[String], files: &mut F) -> Result<Reply, AllocError>
-    ensures reply {
-        IfOk result (λ reply. IsAnswer (record { content = F.content files.old; before = F.faults files.old; after = F.faults files.new }) (map string_bytes words.now) (answer_in reply))
-    }
+    ensures reply { IfOk result (λ reply. IsAnswer (record { content = F.content files.old; before = F.faults files.old; after = F.faults files.new }) (map string_bytes words.now) (answer_in reply)) }
     ensures usage { command_of (map string_bytes words.now) ≡ None → IfOk result (λ reply. (answer_in reply).status ≡ Status.Usage) × IsOk result }
 {
     match command::command_of(words) {
         None => Ok(Reply::Line(Status::Usage, USAGE)),
         Some(Command::Plan { plan }) => plan_answer(alloc, plan, files),
         Some(Command::Migrate { plan }) => migrate_answer(alloc, plan, files),
-        Some(Command::Play {
-            plan,
-            script,
-            workers,
-        }) => play(alloc, plan, script, workers),
+        Some(
+            Command::Play {
+                plan,
+                script,
+                workers,
+            },
+        ) => play(alloc, plan, script, workers),
         Some(_) => Ok(Reply::Line(Status::Unbuilt, UNBUILT)),
     }
 }
 
 /// The answer to `plan PLAN`.
 fn plan_answer<F: Files>(alloc: Global, word: &str, files: &mut F) -> Result<Reply, AllocError>
-    ensures {
-        IfOk result (λ reply. (given : Given) × IsGiven (F.content files.old) (F.faults files.old) (F.faults files.new) word.now given × (answer_in reply ≡ planned (plan_from given)))
-    }
+    ensures { IfOk result (λ reply. (given : Given) × IsGiven (F.content files.old) (F.faults files.old) (F.faults files.new) word.now given × (answer_in reply ≡ planned (plan_from given))) }
 {
     match plan_given(alloc, files, word) {
         Ok(given) => plans::planned(alloc, &given),
@@ -83,9 +82,7 @@ fn plan_answer<F: Files>(alloc: Global, word: &str, files: &mut F) -> Result<Rep
 
 /// The answer to `migrate PLAN`.
 fn migrate_answer<F: Files>(alloc: Global, word: &str, files: &mut F) -> Result<Reply, AllocError>
-    ensures {
-        IfOk result (λ reply. (given : Given) × IsGiven (F.content files.old) (F.faults files.old) (F.faults files.new) word.now given × IsMigrated (plan_from given) (answer_in reply))
-    }
+    ensures { IfOk result (λ reply. (given : Given) × IsGiven (F.content files.old) (F.faults files.old) (F.faults files.new) word.now given × IsMigrated (plan_from given) (answer_in reply)) }
 {
     match plan_given(alloc, files, word) {
         Ok(given) => plans::migrated(alloc, &given),
