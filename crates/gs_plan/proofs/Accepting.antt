@@ -1,5 +1,5 @@
 -- What holds of a plan without a fault.
-use Rattle.std.proofs.Common.{◌≡◌, ℕ, ◌+◌, ◌*◌, ◌<◌, ◌≤◌, ◌^◌, ◌||◌, ◌++◌, arith, refl, nat_lt, nat_le, not, cond, Bool, true, false, List, [], ◌∷◌, All, Option, Some, None, IfSome, unwrap_or, map, length, is_some, slice_index_or}
+use Rattle.std.proofs.Common.{◌≡◌, ℕ, ◌+◌, ◌*◌, ◌≤◌, ◌^◌, ◌||◌, ◌++◌, arith, refl, nat_lt, not, cond, Bool, true, false, List, [], ◌∷◌, All, Option, Some, None, unwrap_or, map, is_some, slice_index_or}
 use Rattle.std.specs.List.{find, list_any}
 use Rattle.std.specs.Option.{option_map_or, option_or}
 use Rattle.std.proofs.lemmas.Bool.{leb-false, ltb-false}
@@ -13,9 +13,9 @@ use Rattle.gs_plan.specs.declared.fault.PlanFault.{PlanFault}
 use Rattle.gs_plan.specs.declared.fault.PlanFault.TheVariants as fault
 use Rattle.gs_plan.specs.Accepted.{IsAccepted, IsFine}
 use Rattle.gs_plan.specs.Bounds.{global_in, kappa_most}
-use Rattle.gs_plan.specs.Edges.{edge_text, edge_texts, own_text, span_between, span_text}
-use Rattle.gs_plan.specs.Faults.{are_bad_delays, are_bad_ports, are_low_kappas, beacon_bound, fault_over, fault_where, first_some, is_bad_span, is_low_kappa, is_one, is_outside, is_wide, span_fault}
-use Rattle.gs_plan.specs.Numbers.{kappa_in, least_kappa_in, q_in, r_in}
+use Rattle.gs_plan.specs.Edges.{edge_text, own_text, span_between, span_text}
+use Rattle.gs_plan.specs.Faults.{are_bad_delays, are_bad_ports, are_low_kappas, beacon_bound, fault_over, fault_where, is_bad_span, is_low_kappa, is_one, is_outside, is_wide, span_fault}
+use Rattle.gs_plan.specs.Numbers.{least_kappa_in, q_in, r_in}
 use Rattle.gs_plan.proofs.Keeping.{each_below}
 
 -- no fault is the first of two where neither is one

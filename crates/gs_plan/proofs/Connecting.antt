@@ -1,8 +1,7 @@
 -- The graph of a text without a fault is connected, as that of each topology.
-use Rattle.std.proofs.Common.{◌≡◌, ℕ, zero, suc, ◌+◌, ◌<◌, ◌≤◌, ◌||◌, ◌==◌, ◌++◌, arith, refl, sym, ◌∙◌, inl, inr, cond, if◌then◌else◌, not, nat_lt, Bool, true, false, List, [], length, Option, Some, None, is_some, option_map}
+use Rattle.std.proofs.Common.{◌≡◌, ℕ, zero, suc, ◌+◌, ◌<◌, ◌≤◌, ◌||◌, ◌==◌, ◌++◌, arith, refl, inl, inr, cond, if◌then◌else◌, not, nat_lt, Bool, true, false, List, [], length, Option, Some, None, is_some, option_map}
 use Rattle.std.specs.Option.{option_or}
 use Rattle.std.proofs.lemmas.Bool.{cases_lt, eqb-false, ltb-false}
-use Rattle.gs_topo.specs.declared.fault.TopoFault.{TopoFault}
 use Rattle.gs_topo.specs.declared.fault.TopoFault.TheVariants.{Count, Edges, Split}
 use Rattle.gs_topo.specs.Faults.{edges_fault, fault_of, split_fault}
 use Rattle.gs_topo.specs.Graph.{Graph, Adjacent, graph_of}
@@ -71,6 +70,7 @@ no_fault_is_graph n given none = counts ((n == 0) || nat_lt 512 n) refl none whe
   edges false is some few h =
       let parts = none_of (edges_fault n [] 0 given) (split_fault (graph_of n given)) h in
       is_graph n given some few (ltb-false 4096 (length given) is) (together (graph_of n given) some parts.1)
+
   counts : (b : Bool) → ((n == 0) || nat_lt 512 n) ≡ b
       → cond b (Some Count) (if nat_lt 4096 (length given) then Some Edges else option_or (edges_fault n [] 0 given) (split_fault (graph_of n given))) ≡ None → IsGraph (graph_of n given)
   counts true is h = absurd (cc)

@@ -1,5 +1,5 @@
 -- The numbers of a plan fit into words, and each edge's are those of its two ends.
-use Rattle.std.proofs.Common.{◌≡◌, ℕ, zero, suc, ◌+◌, ◌-◌, ◌*◌, ◌/◌, ◌<◌, ◌≤◌, ◌^◌, arith, refl, ap, sym, ◌∙◌, fold, max, map, length, List, [], ◌∷◌, All, cond, Bool, true, false, nat_lt, Option, Some, None, IfSome, get_or, slice_index, slice_get, ltb}
+use Rattle.std.proofs.Common.{◌≡◌, ℕ, zero, suc, ◌*◌, ◌<◌, ◌≤◌, ◌^◌, arith, refl, map, length, All, cond, Bool, true, false, nat_lt, get_or, slice_index}
 use Rattle.std.proofs.Math.Nat.{mul-le-mul_right}
 use Rattle.std.proofs.Common.{inl, inr}
 use Rattle.std.proofs.lemmas.Bool.{cases_lt, ltb-false, ltb-true}
@@ -8,12 +8,12 @@ use Rattle.gs_topo.specs.Graph.{Graph}
 use Rattle.gs_topo.proofs.Tables.{le_greatest}
 use Rattle.gs_planfile.specs.declared.text.PlanText.{PlanText}
 use Rattle.gs_plan.specs.declared.edge.EdgeText.{EdgeText}
-use Rattle.gs_plan.specs.Accepted.{IsAccepted, IsFine}
-use Rattle.gs_plan.specs.Bounds.{global_in, greatest_in, kappa_most, lambda_in}
-use Rattle.gs_plan.specs.Edges.{edge_text, edge_texts, own_text}
+use Rattle.gs_plan.specs.Accepted.{IsAccepted}
+use Rattle.gs_plan.specs.Bounds.{greatest_in, kappa_most}
+use Rattle.gs_plan.specs.Edges.{edge_texts, own_text}
 use Rattle.gs_plan.specs.Kept.{AreWords}
-use Rattle.gs_plan.specs.Levels.{best_of, lesser, IsBest}
-use Rattle.gs_plan.specs.Numbers.{iota_in, kappa_in, numbers_in, numbers_of, q_in, r_in, sigma_in}
+use Rattle.gs_plan.specs.Levels.{best_of, IsBest}
+use Rattle.gs_plan.specs.Numbers.{kappa_in}
 
 -- the plan's own number is at most the greatest
 pub own_below : (f : EdgeText → ℕ) (t : PlanText) (g : Graph) → f (own_text t) ≤ greatest_in f t g

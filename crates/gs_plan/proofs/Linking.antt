@@ -1,14 +1,13 @@
 -- The numbers of an edge, found from either end.
-use Rattle.std.proofs.Common.{◌≡◌, ◌≢◌, ℕ, ◌+◌, ◌-◌, ◌*◌, ◌/◌, ◌<◌, ◌≤◌, ◌^◌, ◌||◌, ◌&&◌, ◌==◌, arith, refl, ap, sym, subst, ◌∙◌, inl, inr, map, length, List, [], ◌∷◌, All, cond, Bool, true, false, IsTrue, Option, Some, None, is_some, position, get_or, slice_get, slice_index, slice_index_or, IfSome}
+use Rattle.std.proofs.Common.{◌≡◌, ℕ, ◌*◌, ◌<◌, ◌≤◌, ◌^◌, ◌||◌, ◌&&◌, ◌==◌, arith, refl, ap, sym, subst, ◌∙◌, inl, inr, map, length, List, [], ◌∷◌, Bool, true, false, Option, Some, None, is_some, get_or, slice_get, slice_index, IfSome}
 use Rattle.std.proofs.Math.Nat.{mul-le-mul_left}
 use Rattle.std.proofs.lemmas.Option.{get_or_from_slice_get, slice_get_within}
 use Rattle.gs_plan.specs.Bounds.{kappa_most}
 use Rattle.gs_plan.proofs.Keeping.{each_below}
-use Rattle.std.specs.List.{find, list_any}
 use Rattle.std.specs.Option.{option_map_or}
 use Rattle.std.proofs.lemmas.List.{get_or-map, length-map}
 use Rattle.std.proofs.lemmas.List.Quantifiers.{position-Some}
-use Rattle.gs_topo.specs.Graph.{Graph, Adjacent, adjacent, joins, number_of}
+use Rattle.gs_topo.specs.Graph.{Graph, Adjacent, joins, number_of}
 use Rattle.gs_topo.specs.Walks.{IsLeast, IsWalk, length_of}
 use Rattle.gs_topo.specs.Weights.{length_between}
 use Rattle.gs_topo.proofs.Ascending.{joins-cases}

@@ -1,9 +1,9 @@
 -- What a plan tells a node is valid.
-use Rattle.std.proofs.Common.{◌≡◌, ◌≢◌, ℕ, ◌+◌, ◌-◌, ◌*◌, ◌/◌, ◌<◌, ◌≤◌, ◌^◌, arith, refl, ap, sym, subst, ◌∙◌, inl, inr, map, length, List, [], ◌∷◌, All, Bool, true, false, IsTrue, Option, Some, None, is_none, option_map, get_or, slice_index, slice_index_or, filter}
+use Rattle.std.proofs.Common.{◌≡◌, ◌≢◌, ℕ, ◌+◌, ◌-◌, ◌*◌, ◌/◌, ◌<◌, ◌≤◌, ◌^◌, arith, refl, ap, sym, subst, inl, inr, map, length, List, [], ◌∷◌, true, IsTrue, Option, Some, None, is_none, option_map, get_or, slice_index}
 use Rattle.std.specs.List.{range_with_len}
 use Rattle.std.specs.List.Sorted.{IsStrictlyIncreasing}
 use Rattle.std.proofs.Math.Nat.{div-mul-le_self, mul-add, mul-le-mul_left}
-use Rattle.std.proofs.lemmas.List.Elements.{All-contains, All-filter, All-map, All-weaker}
+use Rattle.std.proofs.lemmas.List.Elements.{All-contains, All-filter, All-map}
 use Rattle.std.proofs.lemmas.List.Kept.{IsStrictlyIncreasing-filter}
 use Rattle.std.proofs.lemmas.List.FromFn.{get_or-range_with_len, length-range_with_len}
 use Rattle.gs_units.specs.Accepted.{boosted}
@@ -20,14 +20,13 @@ use Rattle.gs_topo.proofs.Members.{member-from_list_any}
 use Rattle.gs_topo.proofs.Nearer.{neighbour_inside}
 use Rattle.gs_planfile.specs.declared.text.PlanText.{PlanText}
 use Rattle.gs_plan.specs.declared.edge.EdgeText.{EdgeText}
-use Rattle.gs_plan.specs.declared.fault.PlanFault.{PlanFault}
 use Rattle.gs_plan.specs.declared.fault.PlanFault.TheVariants as fault
 use Rattle.gs_plan.specs.Accepted.{IsAccepted, IsFine}
 use Rattle.gs_plan.specs.Edges.{edge_text, edge_texts, own_text}
-use Rattle.gs_plan.specs.Faults.{fault_over, first_some, plan_fault}
+use Rattle.gs_plan.specs.Faults.{fault_over, plan_fault}
 use Rattle.gs_plan.specs.Kept.{AreWords}
 use Rattle.gs_plan.specs.Nodes.{link_in, link_over}
-use Rattle.gs_plan.specs.Numbers.{comp_in, delta_in, drift_in, iota_in, jump_in, kappa_in, least_kappa_in, spread_in}
+use Rattle.gs_plan.specs.Numbers.{drift_in, iota_in}
 use Rattle.gs_plan.specs.Shapes.{graph_of_text, shape_edges, shape_nodes}
 use Rattle.gs_plan.proofs.Accepting.{accepted_of, none_of}
 use Rattle.gs_plan.proofs.Connecting.{no_fault_is_graph, no_map}

@@ -1,5 +1,5 @@
 -- How a plan is made and kept: for its private functions alone.
-use Rattle.std.specs.Prelude.{◌≡◌, ℕ, ◌*◌, ◌<◌, ◌≤◌, ◌^◌, List, map}
+use Rattle.std.specs.Prelude.{◌≡◌, ℕ, ◌*◌, ◌<◌, ◌≤◌, ◌^◌, map}
 use Rattle.gs_topo.specs.Graph.{Graph}
 use Rattle.gs_topo.specs.Weights.{Lengths}
 use Rattle.gs_planfile.specs.declared.text.PlanText.{PlanText}

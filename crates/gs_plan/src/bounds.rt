@@ -1,8 +1,7 @@
-ghost use Rattle.std.specs.Prelude.{◌≡◌, ◌<◌, ◌≤◌, ◌^◌, fold, map, max};
+ghost use Rattle.std.specs.Prelude.{◌≡◌, ◌<◌, ◌^◌};
 ghost use Rattle.gs_units.specs.Rates.{HasNumbers};
-ghost use Rattle.gs_plan.specs.Bounds.{delay_most, global_in, greatest_in, kappa_most, lambda_in, spread_most};
+ghost use Rattle.gs_plan.specs.Bounds.{delay_most, global_in, kappa_most, lambda_in, spread_most};
 ghost use Rattle.gs_plan.specs.Edges.{edge_texts, own_text};
-ghost use Rattle.gs_plan.specs.Numbers.{kappa_in, spread_in};
 
 use crate::edge::{EdgeText, own_text};
 use crate::numbers::{iota, kappa, spread};

@@ -1,17 +1,12 @@
-ghost use Rattle.std.specs.Prelude.{◌≡◌, ◌≢◌, ◌<◌, ◌≤◌, ◌^◌, ◌*◌, ◌+◌, [], false, Err, IfErr, IfOk, None, OnOk, Some, is_some, length, map, nat_lt, option_map};
+ghost use Rattle.std.specs.Prelude.{◌≡◌, ◌≢◌, ◌<◌, ◌^◌, ◌*◌, ◌+◌, [], false, Err, IfErr, IfOk, None, OnOk, Some, is_some, option_map};
 ghost use Rattle.std.specs.List.{list_any};
 ghost use Rattle.gs_units.specs.Rates.{HasNumbers};
 ghost use Rattle.gs_units.specs.Faults.{rate_fault};
-ghost use Rattle.gs_planfile.specs.declared.text.PlanText.{PlanText};
-ghost use Rattle.gs_topo.specs.Faults.{fault_of};
 ghost use Rattle.gs_topo.specs.Graph.{adjacent};
 ghost use Rattle.gs_plan.specs.Accepted.{IsAccepted};
-ghost use Rattle.gs_plan.specs.Bounds.{global_in, kappa_most};
 ghost use Rattle.gs_plan.specs.Edges.{edge_texts, own_text, span_between, span_text};
 ghost use Rattle.gs_plan.specs.Faults.{are_bad_delays, are_bad_ports, are_low_kappas, beacon_bound, fault_over, fault_where, is_bad_span, is_low_kappa, is_one, is_outside, is_wide, plan_fault, span_fault};
-ghost use Rattle.gs_plan.specs.Numbers.{kappa_in, numbers_in};
 ghost use Rattle.gs_plan.specs.Plans.{text_of};
-ghost use Rattle.gs_plan.specs.Shapes.{graph_of_text, shape_edges, shape_nodes};
 
 use crate::bounds::{global, greatest_delay, greatest_kappa};
 use crate::edge::{EdgeText, edge_texts, own_text, span_between, span_text};

@@ -1,5 +1,4 @@
-ghost use Rattle.std.specs.Prelude.{◌≡◌, IfOk, map, fold, max};
-ghost use Rattle.std.specs.List.{find};
+ghost use Rattle.std.specs.Prelude.{◌≡◌, IfOk};
 ghost use Rattle.gs_topo.specs.Graph.{joins};
 ghost use Rattle.gs_plan.specs.Edges.{edge_text, edge_texts, own_text, span_between, span_text};
 

@@ -1,4 +1,4 @@
-ghost use Rattle.std.specs.Prelude.{◌≡◌, ◌<◌, ◌≤◌, ◌*◌, ◌+◌, ◌^◌, ◌-◌, IfOk, IfSome, IsTrue, None, Some, is_none, length, map, slice_get};
+ghost use Rattle.std.specs.Prelude.{◌≡◌, ◌<◌, ◌≤◌, ◌*◌, ◌^◌, ◌-◌, IfOk, IfSome, IsTrue, None, Some, is_none, length, map, slice_get};
 ghost use Rattle.gs_units.specs.Rates.{HasNumbers};
 ghost use Rattle.gs_plan.specs.Shapes.{graph_of_text};
 ghost use Rattle.gs_plan.specs.Faults.{plan_fault};

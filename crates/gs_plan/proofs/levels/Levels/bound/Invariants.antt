@@ -1,4 +1,4 @@
-use Rattle.std.proofs.Common.{◌≡◌, ◌+◌, ◌*◌, ◌<◌, ◌≤◌, ◌^◌}
+use Rattle.std.proofs.Common.{◌≡◌, ◌+◌, ◌*◌, ◌<◌, ◌^◌}
 use Rattle.gs_plan.specs.Levels.{bound_at}
 use Rattle.gs_plan.proofs.levels.Levels.bound.Given as goal
 

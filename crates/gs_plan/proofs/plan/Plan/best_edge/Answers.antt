@@ -1,8 +1,7 @@
-use Rattle.std.proofs.Common.{◌≡◌, ◌*◌, ◌<◌, ◌^◌, subst}
+use Rattle.std.proofs.Common.{◌≡◌}
 use Rattle.gs_plan.proofs.Linking.{edge_fits, if_some}
 use Rattle.gs_plan.specs.declared.edge.EdgeNumbers.{EdgeNumbers}
 use Rattle.gs_plan.specs.Bounds.{best_edge_in}
-use Rattle.gs_plan.specs.Numbers.{numbers_of}
 use Rattle.gs_plan.proofs.plan.Plan.best_edge.Goals as goal
 
 pub best_of-requires : goal.best_of-requires

@@ -1,4 +1,4 @@
-use Rattle.std.proofs.Common.{◌≡◌, ◌∙◌, ap, sym, get_or, List, Some}
+use Rattle.std.proofs.Common.{◌≡◌, ◌∙◌, ap, get_or, List, Some}
 use Rattle.gs_units.specs.declared.params.Link.{Link}
 use Rattle.gs_topo.specs.Graph.{number_of}
 use Rattle.gs_plan.specs.declared.edge.EdgeNumbers.{EdgeNumbers}

@@ -1,4 +1,4 @@
-use Rattle.std.proofs.Common.{◌≡◌, ◌<◌, length, sym}
+use Rattle.std.proofs.Common.{◌<◌, length}
 use Rattle.gs_topo.specs.Graph.{neighbours_of}
 use Rattle.gs_topo.proofs.Nearer.{neighbour_inside}
 use Rattle.gs_plan.proofs.plan.Plan.links.Goals as goal
