@@ -3,10 +3,9 @@ use Rattle.std.specs.Str.{bytes_eq}
 use Rattle.gs_io.specs.Causes.{Rose}
 use Rattle.gs_io.specs.Held.{Appends, AppendsFront}
 use Rattle.gs_text.specs.Numbers.{number_of}
-use Rattle.gradsync.specs.Commands.{Command, Play, command_of}
 use Rattle.gradsync.specs.Pair.{pair_text}
 use Rattle.gradsync.specs.declared.status.Status.{Status}
-use Rattle.gradsync.specs.declared.status.Status.TheVariants.{Done, Usage, InputRefused, WriteFault, OutOfMemory, Unbuilt}
+use Rattle.gradsync.specs.declared.status.Status.TheVariants.{Done, Usage, InputRefused, WriteFault, Unbuilt}
 
 -- What answers the words of a command line: the status, and the text that is written before it.
 pub record Answer : Type 0 where

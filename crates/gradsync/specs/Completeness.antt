@@ -1,11 +1,11 @@
 -- What a run does where nothing fails.
-use Rattle.std.specs.Prelude.{◌≡◌, ℕ, ◌-◌, ◌^◌, ◌≤◌, ◌⊎◌, true, false, List, length, drop, Option, Some, None, Ok, IfSome}
+use Rattle.std.specs.Prelude.{◌≡◌, ℕ, ◌-◌, ◌^◌, ◌≤◌, ◌⊎◌, true, false, List, length, drop, Option, Some, None, Ok}
 use Rattle.gs_io.specs.Causes.{Rose}
 use Rattle.gs_planfile.specs.Meaning.{plan_of}
 use Rattle.gs_planfile.specs.Texts.{base_text}
 use Rattle.gs_planfile.specs.declared.text.PlanText.{PlanText}
 use Rattle.gs_plan.specs.Faults.{plan_fault}
-use Rattle.gradsync.specs.Commands.{Command, Plan, Migrate, command_of, number_within}
+use Rattle.gradsync.specs.Commands.{Plan, Migrate, command_of, number_within}
 use Rattle.gradsync.specs.Plans.{is_base}
 use Rattle.gradsync.specs.Runs.{Shelves}
 use Rattle.gradsync.specs.declared.status.Status.{Status}

@@ -9,7 +9,6 @@ use Rattle.gs_plan.specs.declared.edge.EdgeNumbers.{EdgeNumbers}
 use Rattle.gs_plan.specs.Edges.{own_text}
 use Rattle.gs_plan.specs.Numbers.{q_in, top_in, sigma_in, r_in, iota_in, kappa_in, delta_in, comp_in, numbers_of}
 use Rattle.gs_plan.specs.Bounds.{lambda_in, level_in, local_in, best_in, best_edge_in}
-use Rattle.gs_plan.specs.Shapes.{graph_of_text}
 
 -- a text and then the line of the network's size
 abbrev pub with_size : List ℕ → Graph → List ℕ

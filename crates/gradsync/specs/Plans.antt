@@ -1,5 +1,5 @@
 -- The plan that a PLAN word names, and what refuses it.
-use Rattle.std.specs.Prelude.{◌≡◌, ℕ, ◌-◌, ◌^◌, Bool, true, false, List, ◌++◌, Option, Some, None, Result, Ok, Err, if◌then◌else◌, codes, take, drop}
+use Rattle.std.specs.Prelude.{◌≡◌, ℕ, ◌-◌, ◌^◌, Bool, true, false, List, ◌++◌, Option, Some, None, Result, Ok, Err, codes, take, drop}
 use Rattle.std.specs.Str.{bytes_eq}
 use Rattle.gs_planfile.specs.Meaning.{plan_of}
 use Rattle.gs_planfile.specs.Texts.{base_text, newest}

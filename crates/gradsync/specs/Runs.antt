@@ -1,7 +1,7 @@
 -- What a run of the program does.
 use Rattle.std.specs.Prelude.{◌≡◌, ℕ, ◌⊎◌, List, Option, Some, None}
 use Rattle.gradsync.specs.Answers.{Answer, Gives, usage, unbuilt, pair_count, answer_play}
-use Rattle.gradsync.specs.Commands.{Command, Plan, Play, Trace, Audit, Replay, Gen, Migrate, Settle, Slots, Order, command_of}
+use Rattle.gradsync.specs.Commands.{Command, Plan, Play, Migrate, command_of}
 use Rattle.gradsync.specs.Plans.{Given, IsGiven, IsMigrated, plan_from, planned}
 use Rattle.gradsync.specs.declared.status.Status.{Status}
 use Rattle.gradsync.specs.declared.status.Status.TheVariants.{OutOfMemory}

@@ -1,4 +1,4 @@
-use Rattle.std.specs.Prelude.{◌≡◌, Result, Ok, Err, MatchResult, ⊤}
+use Rattle.std.specs.Prelude.{◌≡◌, Result, Err, ⊤}
 use Rattle.gradsync.specs.Answers.{Answer}
 use Rattle.gradsync.specs.Reply.{answer_in}
 use Rattle.gradsync.specs.declared.stop.Stop.{Stop}
