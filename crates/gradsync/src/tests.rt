@@ -253,3 +253,92 @@ fn a_failed_read_names_its_file(rt: HostRuntime) -> Result<(), Fail> {
     assert_eq!(rt; written.as_slice(), b"read failed: line.toml\n".as_slice());
     Ok(())
 }
+
+const SPANS: &str = "version = 2
+cluster = 7
+topology = \"line\"
+nodes = 3
+lo = 10000
+hi = 10001
+mu = 2000
+tick = 100
+delay_min = 2
+delay_max = 12
+every = 1
+losses = 3
+age = 412
+";
+
+const SPANS_TEXT: &str = "nodes 3 edges 2 diameter 2
+rate lo 10000 hi 10001 mu 2000 q 20 top 10022 sigma 20
+tick 100 delay 2 12 age 412
+kappa 122529 delta 61264 comp 70000
+iota 2201 lambda 201648 term 1
+level 0 skew 203949 neighbour 203949
+level 1 skew 10199 neighbour 255257
+level 2 skew 511 neighbour 490627
+level 3 skew 27 neighbour 735201
+level 4 skew 3 neighbour 980235
+best 0 203949
+edge 0 1 delay 2 12 kappa 122529 best 0 203949
+edge 1 2 delay 2 2 kappa 22529 best 1 55257
+";
+
+#[test]
+fn a_span_gives_its_edge_numbers_of_its_own(rt: HostRuntime) -> Result<(), Fail> {
+    for (spans, status, written) in [
+        ("[[1, 2, 2, 2]]", Status::Done, SPANS_TEXT),
+        (
+            "[[1, 2, 2, 2, 22528]]",
+            Status::PlanRefused,
+            "plan refused: kappa\n",
+        ),
+        (
+            "[[0, 2, 2, 2]]",
+            Status::PlanRefused,
+            "plan refused: span 0\n",
+        ),
+        (
+            "[[1, 2, 2]]",
+            Status::PlanRefused,
+            "plan refused: kind spans\n",
+        ),
+    ] {
+        let text = format!(in rt.alloc(); "{SPANS}spans = {spans}\n")?;
+        let files = [("spans.toml", text.as_bytes())];
+        let (answered, out) = run_with(&rt, "plan spans.toml", &files, &[], &[])?;
+        assert_eq!(rt; answered, status, "of {spans}");
+        assert_eq!(rt; out.as_slice(), written.as_bytes(), "of {spans}");
+    }
+    Ok(())
+}
+
+#[test]
+fn a_migrated_plan_has_its_bounds_and_a_line_an_edge(rt: HostRuntime) -> Result<(), Fail> {
+    let files = [("line.toml", LINE.as_bytes())];
+    let (status, migrated) = run_with(&rt, "migrate line.toml", &files, &[], &[])?;
+    assert_eq!(rt; status, Status::Done);
+    let files = [("two.toml", migrated.as_slice())];
+    let (status, text) = run_with(&rt, "plan two.toml", &files, &[], &[])?;
+    assert_eq!(rt; status, Status::Done);
+    assert!(rt; text.starts_with(LINE_TEXT.as_bytes()));
+    assert!(rt; text.ends_with(b"edge 31 32 delay 2 12 kappa 122529 best 1 406493\n"));
+    let lines = text.iter().filter(|byte| **byte == b'\n').count();
+    assert_eq!(rt; lines, 11 + 32);
+    Ok(())
+}
+
+#[test]
+fn a_file_of_one_byte_too_many_is_too_long(rt: HostRuntime) -> Result<(), Fail> {
+    for (length, status, written) in [
+        (1_048_576usize, Status::PlanRefused, "plan refused: toml\n"),
+        (1_048_577, Status::TooLong, "too long: long.toml\n"),
+    ] {
+        let bytes = vec![in rt.alloc(); b'['; length]?;
+        let files = [("long.toml", bytes.as_slice())];
+        let (answered, out) = run_with(&rt, "plan long.toml", &files, &[], &[])?;
+        assert_eq!(rt; answered, status, "of {length} bytes");
+        assert_eq!(rt; out.as_slice(), written.as_bytes(), "of {length} bytes");
+    }
+    Ok(())
+}
