@@ -31,7 +31,8 @@ pub fn plan_given<'w, F: Files>(
     files: &mut F,
     word: &'w str,
 ) -> Result<Given<'w>, AllocError>
-    ensures { IfOk result (λ given. IsGiven (F.content files.old) (F.faults files.old) (F.faults files.new) word.now (given_in given)) }
+    ensures { IfOk result (λ given.
+        IsGiven (F.content files.old) (F.faults files.old) (F.faults files.new) word.now (given_in given)) }
 {
     match base_count(word) {
         Some(count) => Ok(Given::Base(count)),

@@ -86,7 +86,8 @@ fn write_terms(text: &mut Lines, plan: &Plan) -> Result<(), AllocError>
 
 #[tactic(auto, using(crate::proofs::Growing::lines))]
 fn write_levels(text: &mut Lines, plan: &Plan) -> Result<(), AllocError>
-    ensures { OnOk result (text.new ≡ with_levels text.old (text_of plan.now) (graph_of plan.now) ((text_of plan.now).levels + 1)) }
+    ensures { OnOk result (text.new ≡ with_levels text.old (text_of plan.now) (graph_of plan.now)
+        ((text_of plan.now).levels + 1)) }
 {
     let last = plan.text().levels;
     for s in 0..last {
@@ -126,7 +127,8 @@ fn write_spans(text: &mut Lines, plan: &Plan) -> Result<(), AllocError>
 
 #[tactic(auto, using(crate::proofs::Growing::lines))]
 fn write_edges(text: &mut Lines, plan: &Plan) -> Result<(), AllocError>
-    ensures { OnOk result (text.new ≡ with_edges text.old (text_of plan.now) (graph_of plan.now) (length (graph_of plan.now).edges)) }
+    ensures { OnOk result (text.new ≡ with_edges text.old (text_of plan.now) (graph_of plan.now)
+        (length (graph_of plan.now).edges)) }
 {
     for e in 0..plan.topo().edges().len() as u32 {
         write_edge(text, plan, e)?;

@@ -123,7 +123,8 @@ fn text_from(alloc: Global, given: &Given<'_>) -> Result<PlanText, Stop>
 
 /// The plan of a text.
 fn checked(alloc: Global, text: &PlanText) -> Result<Plan, Stop>
-    ensures ok { IfOk result (λ plan. (accepted text.now (plan_fault text.now) ≡ Ok text.now) × (text_of plan ≡ text.now)) }
+    ensures ok { IfOk result (λ plan. (accepted text.now (plan_fault text.now) ≡ Ok text.now)
+        × (text_of plan ≡ text.now)) }
     ensures err { IfErr result (StopsAt (accepted text.now (plan_fault text.now))) }
 {
     match gs_plan::check(alloc, text) {

@@ -23,7 +23,8 @@ pub fn read_file<F: Files>(
     name: &str,
     most: u64,
 ) -> Result<Reading, AllocError>
-    ensures reading { IfOk result (λ reading. IsReading (F.content files.old) (F.faults files.old) (F.faults files.new) name.now most (read_in reading)) }
+    ensures reading { IfOk result (λ reading. IsReading (F.content files.old) (F.faults files.old) (F.faults files.new)
+        name.now most (read_in reading)) }
     ensures same { F.content files.new ≡ F.content files.old }
 {
     match files.read(alloc, name, most) {

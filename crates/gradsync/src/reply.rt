@@ -22,7 +22,8 @@ impl Reply {
     /// Writes all of it, a text one line a write, and answers its status; `WriteFault` where a write
     /// fails.
     pub fn write<K: Sink>(&self, out: &mut K) -> Status
-        ensures { Gives (answer_in self.now) (K.bytes out.old) (K.bytes out.new) (K.faults out.old) (K.faults out.new) result }
+        ensures { Gives (answer_in self.now) (K.bytes out.old) (K.bytes out.new)
+            (K.faults out.old) (K.faults out.new) result }
     {
         let (status, written) = match self {
             Reply::Line(status, line) => (*status, gs_io::write_lines(out, line.as_bytes())),

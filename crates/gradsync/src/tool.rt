@@ -36,13 +36,16 @@ pub fn run_tool<F: Files, K: Sink, G: Gate>(
     out: &mut K,
     _gate: &G,
 ) -> Status
-    ensures runs { Runs (record { content = F.content files.old; before = F.faults files.old; after = F.faults files.new }) (map string_bytes words.now) (K.bytes out.old) (K.bytes out.new) (K.faults out.old) (K.faults out.new) result }
+    ensures runs { Runs (record { content = F.content files.old; before = F.faults files.old; after = F.faults files.new })
+        (map string_bytes words.now) (K.bytes out.old) (K.bytes out.new) (K.faults out.old) (K.faults out.new) result }
 
     // With an accepted plan and no fault of the outside, the job is done or memory was short.
-    ensures completes { Completes (record { content = F.content files.old; before = F.faults files.old; after = F.faults files.new }) (map string_bytes words.now) (K.faults out.old) (K.faults out.new) result }
+    ensures completes { Completes (record { content = F.content files.old; before = F.faults files.old; after = F.faults files.new })
+        (map string_bytes words.now) (K.faults out.old) (K.faults out.new) result }
 
     // Words that are no command need no memory.
-    ensures usage { command_of (map string_bytes words.now) ≡ None → (result ≡ Status.Usage) ⊎ (result ≡ Status.WriteFault) }
+    ensures usage { command_of (map string_bytes words.now) ≡ None
+        → (result ≡ Status.Usage) ⊎ (result ≡ Status.WriteFault) }
 {
     match answer(alloc, words, files) {
         Ok(reply) => reply.write(out),
@@ -52,8 +55,10 @@ pub fn run_tool<F: Files, K: Sink, G: Gate>(
 
 /// The answer to the words of a command line.
 fn answer<F: Files>(alloc: Global, words: &[String], files: &mut F) -> Result<Reply, AllocError>
-    ensures reply { IfOk result (λ reply. IsAnswer (record { content = F.content files.old; before = F.faults files.old; after = F.faults files.new }) (map string_bytes words.now) (answer_in reply)) }
-    ensures usage { command_of (map string_bytes words.now) ≡ None → IfOk result (λ reply. (answer_in reply).status ≡ Status.Usage) × IsOk result }
+    ensures reply { IfOk result (λ reply. IsAnswer (record { content = F.content files.old; before = F.faults files.old; after = F.faults files.new })
+        (map string_bytes words.now) (answer_in reply)) }
+    ensures usage { command_of (map string_bytes words.now) ≡ None
+        → IfOk result (λ reply. (answer_in reply).status ≡ Status.Usage) × IsOk result }
 {
     match command::command_of(words) {
         None => Ok(Reply::Line(Status::Usage, USAGE)),
@@ -72,7 +77,9 @@ fn answer<F: Files>(alloc: Global, words: &[String], files: &mut F) -> Result<Re
 
 /// The answer to `plan PLAN`.
 fn plan_answer<F: Files>(alloc: Global, word: &str, files: &mut F) -> Result<Reply, AllocError>
-    ensures { IfOk result (λ reply. (given : Given) × IsGiven (F.content files.old) (F.faults files.old) (F.faults files.new) word.now given × (answer_in reply ≡ planned (plan_from given))) }
+    ensures { IfOk result (λ reply. (given : Given)
+        × IsGiven (F.content files.old) (F.faults files.old) (F.faults files.new) word.now given
+        × (answer_in reply ≡ planned (plan_from given))) }
 {
     match plan_given(alloc, files, word) {
         Ok(given) => plans::planned(alloc, &given),
@@ -82,7 +89,9 @@ fn plan_answer<F: Files>(alloc: Global, word: &str, files: &mut F) -> Result<Rep
 
 /// The answer to `migrate PLAN`.
 fn migrate_answer<F: Files>(alloc: Global, word: &str, files: &mut F) -> Result<Reply, AllocError>
-    ensures { IfOk result (λ reply. (given : Given) × IsGiven (F.content files.old) (F.faults files.old) (F.faults files.new) word.now given × IsMigrated (plan_from given) (answer_in reply)) }
+    ensures { IfOk result (λ reply. (given : Given)
+        × IsGiven (F.content files.old) (F.faults files.old) (F.faults files.new) word.now given
+        × IsMigrated (plan_from given) (answer_in reply)) }
 {
     match plan_given(alloc, files, word) {
         Ok(given) => plans::migrated(alloc, &given),
