@@ -1,0 +1,5 @@
+pub mod Extremes
+pub mod Quantum
+pub mod Window
+pub mod Levels
+pub mod Bounded
