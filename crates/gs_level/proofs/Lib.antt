@@ -3,3 +3,10 @@ pub mod Quantum
 pub mod Window
 pub mod Levels
 pub mod Bounded
+pub mod Worked
+pub mod Sums
+pub mod Weights
+pub mod Greatest
+pub mod Finding
+pub mod Places
+pub mod Pairs

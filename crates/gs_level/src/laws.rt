@@ -1,4 +1,8 @@
 ghost use Rattle.gs_level.specs.Laws.{EdgesKeepBounds, PairsKeepBounds};
+ghost use Rattle.gs_level.specs.Reports.{EdgesAreNamed};
+ghost use Rattle.gs_level.specs.Skews.{PotentialsAreSkews};
+ghost use Rattle.gs_level.specs.Weight.{WeightsAreLeastSums, WeightsFitKappas};
+ghost use Rattle.gs_level.specs.Worked.{IsWorkedNetwork};
 
 /// Steered clocks keep the bounds of all levels, at every moment: from equal clocks that never differ
 /// by more than `G(0)`, the clocks of a pair stay within `2*s` times its weight and `G(s)`, and so the
@@ -11,4 +15,26 @@ ghost use Rattle.gs_level.specs.Laws.{EdgesKeepBounds, PairsKeepBounds};
 pub fn levels_keep_bounds()
     ensures pairs { PairsKeepBounds }
     ensures edges { EdgesKeepBounds }
+{}
+
+/// Some network meets the premises of that law, and has a node in the fast condition.
+pub fn levels_have_a_network()
+    ensures { IsWorkedNetwork }
+{}
+
+/// The weight of a pair is the least sum of the kappas of the edges of a walk, in every plan, and so
+/// meets what the law of the levels asks of weights.
+pub fn weights_are_least_sums()
+    ensures least { WeightsAreLeastSums }
+    ensures fit { WeightsFitKappas }
+{}
+
+/// The potential of level 0 is the global skew, and no potential is above it.
+pub fn potentials_are_skews()
+    ensures { PotentialsAreSkews }
+{}
+
+/// A report names an edge exactly where the graph has one.
+pub fn edges_are_named()
+    ensures { EdgesAreNamed }
 {}

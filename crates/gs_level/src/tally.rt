@@ -1,0 +1,141 @@
+ghost use Rattle.std.specs.Prelude.{◌≡◌, ◌+◌, ◌-◌, ◌<◌, ◌^◌, ◌++◌, ◌∷◌, [], ℕ, List, IfOk, length};
+ghost use Rattle.gs_topo.specs.Walks.{IsGraph};
+ghost use Rattle.gs_plan.specs.Plans.{text_of, graph_of};
+ghost use Rattle.gs_level.specs.Reports.{report_of};
+ghost use Rattle.gs_level.specs.Skews.{global_skew};
+
+use crate::potentials::peaks;
+use crate::report::Report;
+use crate::skew::{first_edge, global_skew, near_skew};
+use gs_plan::Plan;
+use gs_topo::Topology;
+use std::alloc::{AllocError, Global};
+
+/// The greatest skews of the rows of clocks so far, in clock units, without the rows: the row at the
+/// start of a play, then one at the end of each quantum.
+#[derive(Clone, Copy, Debug, PartialEq, Eq)]
+pub struct Tally {
+    rows: u32,
+    global: u64,
+    global_at: u32,
+    near: u64,
+    near_at: u32,
+    near_edge: Option<(u32, u32)>,
+}
+
+impl Tally {
+    ghost use Rattle.gs_level.specs.Tallies.{rows_in, tally_of};
+    ghost use Rattle.gs_level.specs.Running.{added, raised_global, raised_near};
+
+    /// The tally of the clocks at the start.
+    pub fn new(plan: &Plan, clocks: &[u64]) -> Self
+        requires { length clocks.now ≡ (graph_of plan.now).nodes }
+        ensures value { result ≡ tally_of (graph_of plan.now) (clocks.now ∷ []) }
+        ensures rows { rows_in result ≡ 1 }
+    {
+        let near = near_skew(plan.topo(), clocks);
+        Tally {
+            rows: 1,
+            global: global_skew(clocks),
+            global_at: 0,
+            near,
+            near_at: 0,
+            near_edge: first_edge(plan.topo(), clocks, near),
+        }
+    }
+
+    /// Takes in the clocks at the end of one more quantum.
+    pub fn add(&mut self, plan: &Plan, clocks: &[u64])
+        requires count { length clocks.now ≡ (graph_of plan.now).nodes }
+        requires room { rows_in self.old < 2 ^ 32 - 1 }
+        ensures value { (rows : List (List ℕ)) → self.old ≡ tally_of (graph_of plan.now) rows
+            → self.new ≡ tally_of (graph_of plan.now) (rows ++ clocks.now ∷ []) }
+        ensures rows { rows_in self.new ≡ rows_in self.old + 1 }
+    {
+        *self = self.with(plan.topo(), clocks);
+    }
+
+    /// What is reported once these clocks, the last, were taken in, where nodes took `fast` quanta in
+    /// fast mode in all.
+    pub fn report(
+        &self,
+        alloc: Global,
+        plan: &Plan,
+        clocks: &[u64],
+        fast: u64,
+    ) -> Result<Report, AllocError>
+        requires { length clocks.now ≡ (graph_of plan.now).nodes }
+        ensures value { (before : List (List ℕ)) → self.now ≡ tally_of (graph_of plan.now) (before ++ clocks.now ∷ [])
+            → IfOk result (λ report. report ≡ report_of (text_of plan.now) (graph_of plan.now) (before ++ clocks.now ∷ []) fast) }
+        ensures levels { IfOk result (λ report. length report.levels ≡ (text_of plan.now).levels + 1) }
+    {
+        Ok(Report {
+            quanta: self.rows.saturating_sub(1),
+            global: self.global,
+            global_at: self.global_at,
+            near: self.near,
+            near_at: self.near_at,
+            near_edge: self.near_edge,
+            levels: peaks(alloc, plan, clocks)?,
+            fast,
+        })
+    }
+
+    /// The tally with one more row.
+    #[tactic(auto, unfolding(crate::specs::Running::added))]
+    fn with(self, topo: &Topology, clocks: &[u64]) -> Self
+        requires graph { IsGraph topo.now }
+        requires count { length clocks.now ≡ topo.now.nodes }
+        requires room { rows_in self < 2 ^ 32 - 1 }
+        ensures value { result ≡ added topo.now self clocks.now }
+        ensures rows { rows_in result ≡ rows_in self + 1 }
+    {
+        let global = global_skew(clocks);
+        let raised = self.raised_global(global).raised_near(topo, clocks, global);
+        Tally {
+            rows: self.rows + 1,
+            ..raised
+        }
+    }
+
+    /// The tally with the global skew of one more row.
+    #[tactic(auto, unfolding(crate::specs::Running::raised_global))]
+    fn raised_global(self, skew: u64) -> Self
+        ensures { result ≡ raised_global self skew }
+    {
+        if skew > self.global {
+            Tally {
+                global: skew,
+                global_at: self.rows,
+                ..self
+            }
+        } else {
+            self
+        }
+    }
+
+    /// The tally with the neighbour skew of one more row. That is at most the row's global skew, so
+    /// most rows are done with without a look at their edges.
+    #[tactic(auto, unfolding(crate::specs::Running::raised_near))]
+    fn raised_near(self, topo: &Topology, clocks: &[u64], global: u64) -> Self
+        requires graph { IsGraph topo.now }
+        requires count { length clocks.now ≡ topo.now.nodes }
+        requires global { global ≡ global_skew clocks.now }
+        ensures { result ≡ raised_near topo.now.edges self clocks.now }
+    {
+        if global <= self.near {
+            return self;
+        }
+        let near = near_skew(topo, clocks);
+        if near > self.near {
+            Tally {
+                near,
+                near_at: self.rows,
+                near_edge: first_edge(topo, clocks, near),
+                ..self
+            }
+        } else {
+            self
+        }
+    }
+}
