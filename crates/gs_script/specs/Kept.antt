@@ -1,0 +1,115 @@
+-- How a script is kept: for its private functions alone.
+use Rattle.std.specs.Prelude.{◌≡◌, ℕ, ◌+◌, ◌<◌, ◌≤◌, Bool, false, List, [], ◌∷◌, ◌++◌, Option, Some, None, Result, Ok, Err, length, map, option_and_then, get_or, slice_get, slice_index, if◌then◌else◌}
+use Rattle.std.specs.List.{range_with_len}
+use Rattle.std.specs.Option.{option_map_or, option_or}
+use Rattle.gs_topo.specs.Graph.{Adjacent}
+use Rattle.gs_planfile.specs.declared.text.PlanText.{PlanText}
+use Rattle.gs_plan.specs.Edges.{edge_text}
+use Rattle.gs_plan.specs.Shapes.{graph_of_text}
+use Rattle.gs_script.specs.declared.fault.ScriptFault.{ScriptFault}
+use Rattle.gs_script.specs.declared.line.Kind.{Kind}
+use Rattle.gs_script.specs.declared.line.Kind.TheVariants.{Drift, Tick, Delay, Loss}
+use Rattle.gs_script.specs.declared.line.Line.{Line}
+use Rattle.gs_script.specs.declared.line.Topic.{Topic}
+use Rattle.gs_script.specs.declared.line.Who.{Who}
+use Rattle.gs_script.specs.declared.line.Who.TheVariants.{Every, One}
+use Rattle.gs_script.specs.declared.kept.Node.{Node}
+use Rattle.gs_script.specs.declared.kept.Sender.{Sender}
+use Rattle.gs_script.specs.declared.kept.Way.{Way}
+use Rattle.gs_script.specs.declared.line.Topic.TheVariants as topic
+use Rattle.gs_script.specs.declared.links.Link.{Link}
+use Rattle.gs_script.specs.Checks.{is_delay_outside}
+use Rattle.gs_script.specs.Lines.{is_for, matches, value_in}
+use Rattle.gs_script.specs.Script.{IsScript, Said, least_delay}
+
+-- an edge with its delays
+abbrev pub link_of : PlanText → ℕ × ℕ → Link
+link_of t e = record { a = e.0; b = e.1; delay_min = (edge_text t e).delay_min; delay_max = (edge_text t e).delay_max }
+
+abbrev pub links_of : PlanText → List Link
+links_of t = map (link_of t) (graph_of_text t).edges
+
+-- a node of the plan, or the star
+abbrev pub IsKnown : PlanText → Who → Type 0
+IsKnown t Every = Unit {0}
+IsKnown t (One v) = v < (graph_of_text t).nodes
+
+-- a record's value is within the bounds of the plan
+abbrev pub ValueFits : PlanText → Kind → ℕ → Type 0
+ValueFits t (Drift who) x = (t.lo ≤ x) × (x ≤ t.hi)
+ValueFits t (Tick who) x = (1 ≤ x) × (x ≤ t.tick)
+ValueFits t (Delay v w) x = is_delay_outside t v w x ≡ false
+ValueFits t (Loss v w) x = x ≤ 1
+
+abbrev pub Fits : PlanText → Line → Type 0
+Fits t l = ValueFits t l.kind l.value
+
+-- records before others
+abbrev pub after : List Line → Result (List Line) ScriptFault → Result (List Line) ScriptFault
+after done (Ok ls) = Ok (done ++ ls)
+after done (Err e) = Err e
+
+-- a record of this kind is of node v, or of beacons that it sends
+abbrev pub is_from : ℕ → Kind → Bool
+is_from v (Drift who) = is_for who v
+is_from v (Tick who) = is_for who v
+is_from v (Delay from to) = is_for from v
+is_from v (Loss from to) = is_for from v
+
+-- the node of a topic, which is the sender where it is of beacons
+abbrev pub node_in : Topic → ℕ
+node_in (topic.Drift v) = v
+node_in (topic.Tick v) = v
+node_in (topic.Delay v w) = v
+node_in (topic.Loss v w) = v
+
+-- the places from k on of the records that pass a test, the latest first
+unfoldable pub latest : (Kind → Bool) → ℕ → List Line → List ℕ
+latest p k [] = []
+latest p k (l ∷ ls) = latest p (k + 1) ls ++ (if p l.kind then k ∷ [] else [])
+
+-- the record at a place passes a test
+abbrev pub is_at : (Kind → Bool) → List Line → ℕ → Bool
+is_at p lines i = option_map_or (λ l. p l.kind) (slice_get lines i) false
+
+-- the value of the first of these places whose record holds in quantum t
+unfoldable pub first_value : ℕ → List Line → List ℕ → Option ℕ
+first_value t lines [] = None
+first_value t lines (i ∷ is) = option_or (option_and_then (value_in t) (slice_get lines i)) (first_value t lines is)
+
+-- what is kept of node v
+abbrev pub node_of : List Line → ℕ → Node
+node_of lines v = record { drifts = latest (matches (topic.Drift v)) 0 lines; ticks = latest (matches (topic.Tick v)) 0 lines }
+
+-- the delay of beacons from v to w where no record sets it
+abbrev pub least_between : PlanText → ℕ → ℕ → ℕ
+least_between t v w = least_delay (edge_text t (v, w)).delay_min
+
+-- what is kept of the way from v to w
+abbrev pub way_of : PlanText → List Line → ℕ → ℕ → Way
+way_of t lines v w = record {
+  least = least_between t v w;
+  delays = latest (matches (topic.Delay v w)) 0 lines;
+  losses = latest (matches (topic.Loss v w)) 0 lines;
+}
+
+-- the ways from v to its neighbours among the first n nodes stand where the index says
+pub record HasWays (t : PlanText) (lines : List Line) (v n : ℕ) (index : List ℕ) (ways : List Way) : Type 0 where
+  pub count : length index ≡ n
+  pub few : length ways ≤ n
+  pub each : (w : ℕ) → w < n → Adjacent (graph_of_text t) v w → slice_get ways (slice_index index w) ≡ Some (way_of t lines v w)
+
+-- the same among all nodes
+abbrev pub HasAllWays : PlanText → List Line → ℕ → Sender → Type 0
+HasAllWays t lines v sender = HasWays t lines v (graph_of_text t).nodes sender.index.items sender.ways.items
+
+-- what is kept of the first n senders
+pub record HasSenders (t : PlanText) (lines : List Line) (n : ℕ) (senders : List Sender) : Type 0 where
+  pub count : length senders ≡ n
+  pub each : (v : ℕ) (d : Sender) → v < n → HasAllWays t lines v (get_or senders v d)
+
+-- what is kept of a script
+pub record IsKept (s : Said) (ns : List Node) (ss : List Sender) : Type 0 where
+  pub script : IsScript s
+  pub nodes : ns ≡ map (node_of s.lines) (range_with_len 0 (graph_of_text s.text).nodes)
+  pub senders : HasSenders s.text s.lines (graph_of_text s.text).nodes ss
