@@ -1,0 +1,8 @@
+use Rattle.gs_world.proofs.PlanNumbers.{plan_has_numbers, told_is}
+use Rattle.gs_world.proofs.plans.plans_have_numbers.Goals as goal
+
+pub returns-clause-numbers : goal.returns-clause-numbers
+returns-clause-numbers c = plan_has_numbers
+
+pub returns-clause-nodes : goal.returns-clause-nodes
+returns-clause-nodes c = told_is

@@ -1,0 +1,123 @@
+use Rattle.std.proofs.Common.{◌≡◌, ◌∙◌, arith, length, Some, subst, sym}
+use Rattle.std.proofs.lemmas.List.Quantifiers.{position-Some}
+use Rattle.gs_core.specs.declared.event.Event.TheVariants.{Quantum}
+use Rattle.gs_world.specs.Admitted.{stale_in}
+use Rattle.gs_world.specs.Nets.{net_of}
+use Rattle.gs_world.specs.Placed.{Placed}
+use Rattle.gs_world.specs.Seen.{world_in}
+use Rattle.gs_world.specs.Why.{drifts, why}
+use Rattle.gs_world.specs.declared.refused.Refused.TheVariants.{Drift, End, Shape, TickDue}
+use Rattle.gs_world.proofs.Advancing.{at_end, drift_read, drifting, due_node, due_read, else_stale, few_nodes, tick_due, wrong_count}
+use Rattle.gs_world.proofs.Placing.{room_inside}
+use Rattle.gs_world.proofs.world.World.admit_quantum.Goals as goal
+
+pub returns-then-incs-len-clause-err : goal.returns-then-incs-len-clause-err
+returns-then-incs-len-clause-err c =
+    let a = c.self.inside in
+    let nodes = room_inside a c.self.invariant in
+    subst (λ (p : Placed). why (net_of p.plan) p.world (Quantum c.args.incs.now) ≡ Some Shape) c.self.view_is
+    (wrong_count (net_of a.plan.now) (world_in a) c.args.incs.now (λ same. c.if-incs-len.true (same ∙ sym nodes ∙ sym c.len.ensures)))
+
+pub returns-then-self-ge-MAX_QUANTA-clause-err : goal.returns-then-self-ge-MAX_QUANTA-clause-err
+returns-then-self-ge-MAX_QUANTA-clause-err c =
+    let a = c.self.inside in
+    let nodes = room_inside a c.self.invariant in
+    let count : length c.args.incs.now ≡ (net_of a.plan.now).nodes = c.if-incs-len.false ∙ c.len.ensures ∙ nodes in
+    subst (λ (p : Placed). why (net_of p.plan) p.world (Quantum c.args.incs.now) ≡ Some End) c.self.view_is
+    (at_end (net_of a.plan.now) (world_in a) c.args.incs.now count c.if-self-ge-MAX_QUANTA.true)
+
+pub overflow_cast-result : goal.overflow_cast-result
+overflow_cast-result c =
+    let a = c.self.inside in
+    let nodes = room_inside a c.self.invariant in
+    let count : length c.args.incs.now ≡ (net_of a.plan.now).nodes = c.if-incs-len.false ∙ c.len.ensures ∙ nodes in
+    let drift =
+    drift_read a c.rate-rate.result.now c.lo.result c.hi.result c.args.incs.now c.first_drift.result
+    c.rate-rate.ensures c.lo.ensures c.hi.ensures c.first_drift.ensures
+    ∙ c.in-Some.is in
+    let found = (position-Some (drifts (net_of a.plan.now)) c.args.incs.now c.in-Some.v 0 drift).0 in
+    let few = few_nodes a in
+    omega (arith, found, count, few)
+
+pub returns-in-Some-clause-err : goal.returns-in-Some-clause-err
+returns-in-Some-clause-err c =
+    let a = c.self.inside in
+    let nodes = room_inside a c.self.invariant in
+    let count : length c.args.incs.now ≡ (net_of a.plan.now).nodes = c.if-incs-len.false ∙ c.len.ensures ∙ nodes in
+    let drift =
+    drift_read a c.rate-rate.result.now c.lo.result c.hi.result c.args.incs.now c.first_drift.result
+    c.rate-rate.ensures c.lo.ensures c.hi.ensures c.first_drift.ensures
+    ∙ c.in-Some.is in
+    subst (λ (p : Placed). why (net_of p.plan) p.world (Quantum c.args.incs.now) ≡ Some (Drift c.in-Some.v))
+    c.self.view_is
+    (drifting (net_of a.plan.now) (world_in a) c.args.incs.now c.in-Some.v count c.if-self-ge-MAX_QUANTA.false drift)
+
+pub overflow_cast-result-in-Some-first_due : goal.overflow_cast-result-in-Some-first_due
+overflow_cast-result-in-Some-first_due c =
+    let a = c.self.inside in
+    let nodes = room_inside a c.self.invariant in
+    let due =
+    due_read a c.text.result.now c.deref.result.now c.first_due.result c.text.ensures c.deref.ensures.value
+    c.first_due.ensures
+    ∙ c.in-Some-first_due.is in
+    let found = due_node a c.in-Some-first_due.v c.self.invariant due in
+    let few = few_nodes a in
+    omega (arith, found, few)
+
+pub returns-in-Some-first_due-clause-err : goal.returns-in-Some-first_due-clause-err
+returns-in-Some-first_due-clause-err c =
+    let a = c.self.inside in
+    let nodes = room_inside a c.self.invariant in
+    let count : length c.args.incs.now ≡ (net_of a.plan.now).nodes = c.if-incs-len.false ∙ c.len.ensures ∙ nodes in
+    let drift =
+    drift_read a c.rate-rate.result.now c.lo.result c.hi.result c.args.incs.now c.first_drift.result
+    c.rate-rate.ensures c.lo.ensures c.hi.ensures c.first_drift.ensures
+    ∙ c.in_default.is in
+    let due =
+    due_read a c.text.result.now c.deref.result.now c.first_due.result c.text.ensures c.deref.ensures.value
+    c.first_due.ensures
+    ∙ c.in-Some-first_due.is in
+    subst
+    (λ (p : Placed). why (net_of p.plan) p.world (Quantum c.args.incs.now) ≡ Some (TickDue c.in-Some-first_due.v))
+    c.self.view_is
+    (tick_due (net_of a.plan.now) (world_in a) c.args.incs.now c.in-Some-first_due.v count c.if-self-ge-MAX_QUANTA.false drift due)
+
+pub returns-in-Some-stale-clause-err : goal.returns-in-Some-stale-clause-err
+returns-in-Some-stale-clause-err c =
+    let a = c.self.inside in
+    let nodes = room_inside a c.self.invariant in
+    let count : length c.args.incs.now ≡ (net_of a.plan.now).nodes = c.if-incs-len.false ∙ c.len.ensures ∙ nodes in
+    let drift =
+    drift_read a c.rate-rate.result.now c.lo.result c.hi.result c.args.incs.now c.first_drift.result
+    c.rate-rate.ensures c.lo.ensures c.hi.ensures c.first_drift.ensures
+    ∙ c.in_default.is in
+    let due =
+    due_read a c.text.result.now c.deref.result.now c.first_due.result c.text.ensures c.deref.ensures.value
+    c.first_due.ensures
+    ∙ c.in_default-first_due.is in
+    let stale =
+    subst
+    (λ (p : Placed). why (net_of p.plan) p.world (Quantum c.args.incs.now) ≡ stale_in (net_of p.plan) p.world)
+    c.self.view_is
+    (else_stale (net_of a.plan.now) (world_in a) c.args.incs.now count c.if-self-ge-MAX_QUANTA.false drift due) in
+    stale ∙ sym c.stale.ensures ∙ c.in-Some-stale.is
+
+pub returns-in-None-clause-ok : goal.returns-in-None-clause-ok
+returns-in-None-clause-ok c =
+    let a = c.self.inside in
+    let nodes = room_inside a c.self.invariant in
+    let count : length c.args.incs.now ≡ (net_of a.plan.now).nodes = c.if-incs-len.false ∙ c.len.ensures ∙ nodes in
+    let drift =
+    drift_read a c.rate-rate.result.now c.lo.result c.hi.result c.args.incs.now c.first_drift.result
+    c.rate-rate.ensures c.lo.ensures c.hi.ensures c.first_drift.ensures
+    ∙ c.in_default.is in
+    let due =
+    due_read a c.text.result.now c.deref.result.now c.first_due.result c.text.ensures c.deref.ensures.value
+    c.first_due.ensures
+    ∙ c.in_default-first_due.is in
+    let stale =
+    subst
+    (λ (p : Placed). why (net_of p.plan) p.world (Quantum c.args.incs.now) ≡ stale_in (net_of p.plan) p.world)
+    c.self.view_is
+    (else_stale (net_of a.plan.now) (world_in a) c.args.incs.now count c.if-self-ge-MAX_QUANTA.false drift due) in
+    stale ∙ sym c.stale.ensures ∙ c.in-None.is

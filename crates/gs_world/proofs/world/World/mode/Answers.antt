@@ -1,0 +1,14 @@
+use Rattle.std.proofs.Common.{◌∙◌, ap, arith, sym}
+use Rattle.gs_world.specs.World.{Member}
+use Rattle.gs_world.proofs.Placing.{reads, seats_of}
+use Rattle.gs_world.proofs.world.World.mode.Goals as goal
+
+pub index-requires : goal.index-requires
+index-requires c =
+    let room = seats_of c.self.inside c.args.self.now c.self.invariant c.self.view_is in omega (arith, room)
+
+pub returns : goal.returns
+returns c =
+    c.mode.ensures
+    ∙ ap (λ (m : Member). m.node.mode)
+    (sym (reads c.self.inside c.args.self.now c.args.v c.index.result.now c.self.invariant c.self.view_is c.requires c.index.ensures).member)
