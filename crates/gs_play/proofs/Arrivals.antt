@@ -1,0 +1,91 @@
+-- What comes in a quantum: each beacon was sent before, over an edge, and is as old as its delay.
+use Rattle.std.proofs.Common.{◌≡◌, ℕ, zero, suc, ◌+◌, ◌<◌, ◌≤◌, inl, inr, arith, ap, sym, refl, ◌∙◌, List, length, Option, Some, None, Bool, true, false, nat_eq, nat_lt, position, Contains, get_or}
+use Rattle.std.specs.List.{range_with_len, position_or_len, AllByRecursion}
+use Rattle.std.proofs.lemmas.Bool.{eqb-true, eq-eqb, cases_Bool, ltb-false, cond-true, true≢false}
+use Rattle.std.proofs.lemmas.List.Sums.{fails_before_first}
+use Rattle.std.proofs.lemmas.List.Quantifiers.{position-Some}
+use Rattle.gs_topo.proofs.Members.{Contains-filter, Contains-range}
+use Rattle.gs_core.specs.declared.event.Event.{Event}
+use Rattle.gs_core.specs.declared.event.Event.TheVariants.{Quantum, Tick, Deliver}
+use Rattle.gs_world.specs.Net.{Net, Adjacent, neighbours, neighbour, place_of}
+use Rattle.gs_play.specs.Course.{Course}
+use Rattle.gs_play.specs.Calendar.{sent_at, comes_at, if_comes, coming, arrivals}
+use Rattle.gs_play.specs.Events.{nodes_of, deliveries, deliveries_to}
+use Rattle.gs_play.proofs.Comings.{comes_when}
+use Rattle.gs_play.proofs.OneSeat.{all_deliveries}
+use Rattle.gs_play.proofs.Parts.{each_append, each_map, each_flat, each_weaker, each_kept, each_in_range}
+
+-- ---- places
+
+-- what passes somewhere has a first place
+some_place : {X : Type 0} (p : X → Bool) (xs : List X) (x : X) → Contains xs x → p x ≡ true → position p xs ≡ Some (position_or_len p xs)
+some_place p xs x h passes = cond-true (nat_lt (position_or_len p xs) (length xs)) (Some (position_or_len p xs)) None (elim (cases_Bool (nat_lt (position_or_len p xs) (length xs))) [
+  | inl inside ↦ inside
+  | inr past ↦
+      let le : length xs ≤ position_or_len p xs = ltb-false (position_or_len p xs) (length xs) past in
+      let k : ℕ = h.0 in
+      let low : k < position_or_len p xs = (let a = h.1 in omega (arith, a, le)) in
+      let fails : p (get_or xs k x) ≡ false = fails_before_first p xs k x low in
+      absurd (true≢false (sym (ap p h.2 ∙ passes) ∙ fails))
+])
+
+-- a neighbour has a place
+pub place_of_neighbour : (net : Net) (v x : ℕ) → x < net.nodes → Adjacent net v x → (i : ℕ) × (place_of net v x ≡ Some i)
+place_of_neighbour net v x inside near =
+    let member : Contains (neighbours net v) x = Contains-filter (net.adjacent v) (range_with_len 0 net.nodes) x near (Contains-range 0 net.nodes x (omega arith) (omega arith)) in
+    (position_or_len (λ y. nat_eq y x) (neighbours net v), some_place (λ y. nat_eq y x) (neighbours net v) x member (eq-eqb x x refl))
+
+pub place_is_inside : (net : Net) (v x i : ℕ) → place_of net v x ≡ Some i → (i < length (neighbours net v)) × (neighbour net v i ≡ x)
+place_is_inside net v x i e =
+    let found = position-Some (λ y. nat_eq y x) (neighbours net v) i 0 e in
+    (found.0, eqb-true (neighbour net v i) x found.1)
+
+-- ---- the beacons that come
+
+-- a beacon of this sequence was sent in this quantum, before t, and its delay ends in quantum t
+pub record IsAged (net : Net) (c : Course) (from to t : ℕ) (b : ℕ × ℕ) : Type 0 where
+  pub sent : sent_at net c from b.0 ≡ Some b.1
+  pub before : b.0 < t
+  pub age : b.0 + c.delay from to b.0 ≡ t
+
+one_is_aged : (net : Net) (c : Course) (from to t n : ℕ) (b : Bool) (o : Option ℕ) → n < t → comes_at c from to t n ≡ b → sent_at net c from n ≡ o → AllByRecursion (IsAged net c from to t) (if_comes b n o)
+one_is_aged net c from to t n b None less e sent = tt
+one_is_aged net c from to t n true (Some k) less e sent = (record { sent = sent; before = less; age = comes_when c from to t n e }, tt)
+one_is_aged net c from to t n false (Some k) less e sent = tt
+
+coming_are_aged : (net : Net) (c : Course) (from to t n : ℕ) → n < t → AllByRecursion (IsAged net c from to t) (coming net c from to t n)
+coming_are_aged net c from to t zero less = tt
+coming_are_aged net c from to t (suc n) less =
+    each_append (IsAged net c from to t) (coming net c from to t n) (if_comes (comes_at c from to t (suc n)) (suc n) (sent_at net c from (suc n)))
+    (coming_are_aged net c from to t n (omega arith))
+    (one_is_aged net c from to t (suc n) (comes_at c from to t (suc n)) (sent_at net c from (suc n)) less refl refl)
+
+pub arrivals_are_aged : (net : Net) (c : Course) (from to t : ℕ) → AllByRecursion (IsAged net c from to t) (arrivals net c from to t)
+arrivals_are_aged net c from to zero = tt
+arrivals_are_aged net c from to (suc t) = coming_are_aged net c from to (suc t) t (omega arith)
+
+-- ---- the deliveries of a quantum
+
+-- such a beacon comes in quantum t, from a neighbour
+pub record Arrives (net : Net) (c : Course) (t from to seq : ℕ) : Type 0 where
+  pub node : to < net.nodes
+  pub sender : from < net.nodes
+  pub near : Adjacent net to from
+  pub quantum : ℕ
+  pub aged : IsAged net c from to t (quantum, seq)
+
+abbrev pub IsArrival : Net → Course → ℕ → Event → Type 0
+IsArrival net c t (Quantum incs) = ⊥
+IsArrival net c t (Tick v) = ⊥
+IsArrival net c t (Deliver from to seq) = Arrives net c t from to seq
+
+deliveries_arrive : (net : Net) (c : Course) (t from to : ℕ) → to < net.nodes → from < net.nodes → Adjacent net to from → AllByRecursion (IsArrival net c t) (deliveries from to (arrivals net c from to t))
+deliveries_arrive net c t from to node sender near = each_map (IsArrival net c t) (λ b. Deliver from to b.1) (arrivals net c from to t)
+    (each_weaker (IsAged net c from to t) (λ b. Arrives net c t from to b.1) (λ b h. record { node = node; sender = sender; near = near; quantum = b.0; aged = h }) (arrivals net c from to t) (arrivals_are_aged net c from to t))
+
+pub arrivals_to : (net : Net) (c : Course) (t to : ℕ) → to < net.nodes → AllByRecursion (IsArrival net c t) (deliveries_to net c t to)
+arrivals_to net c t to node = each_flat (IsArrival net c t) (λ from. deliveries from to (arrivals net c from to t)) (neighbours net to)
+    (each_weaker _ _ (λ from h. deliveries_arrive net c t from to node (let k = h.0 in omega (arith, k)) h.1) (neighbours net to) (each_kept _ (net.adjacent to) (nodes_of net) (each_in_range 0 net.nodes)))
+
+pub all_arrive : (net : Net) (c : Course) (t : ℕ) → AllByRecursion (IsArrival net c t) (all_deliveries net c t)
+all_arrive net c t = each_flat (IsArrival net c t) (deliveries_to net c t) (nodes_of net) (each_weaker _ _ (λ to h. arrivals_to net c t to (omega (arith, h))) (nodes_of net) (each_in_range 0 net.nodes))

@@ -1,0 +1,39 @@
+-- The laws of scripts: what a script's events can be refused for.
+use Rattle.std.specs.Prelude.{◌≡◌, ℕ, ◌+◌, ◌<◌, List, None, Some, length, take}
+use Rattle.gs_core.specs.declared.event.Event.{Event}
+use Rattle.gs_plan.specs.Plans.{text_of}
+use Rattle.gs_plan.specs.declared.plan.Plan.{Plan}
+use Rattle.gs_script.specs.Script.{Said, IsScript}
+use Rattle.gs_world.specs.Net.{Net}
+use Rattle.gs_world.specs.Nets.{net_of}
+use Rattle.gs_world.specs.Run.{Allowed, first_refused, run}
+use Rattle.gs_world.specs.World.{World}
+use Rattle.gs_world.specs.declared.refused.Refused.TheVariants.{Stale}
+use Rattle.gs_play.specs.Breach.{Breach}
+use Rattle.gs_play.specs.Calm.{Calm}
+use Rattle.gs_play.specs.Course.{course_of}
+use Rattle.gs_play.specs.Events.{events_of}
+use Rattle.gs_play.specs.Played.{start_of}
+use Rattle.gs_play.specs.Scripts.{breach_of_script}
+
+-- the event at place k is the first that is refused, where i went before, and this breach is why
+pub record IsFirstRefusal (net : Net) (i : ℕ) (w : World) (es : List Event) (b : Breach) (k : ℕ) : Type 0 where
+  pub inside : k < length es
+  pub refusal : first_refused net i w es ≡ Some (i + k, Stale b.from b.to)
+  pub quantum : (run net w (take k es)).quanta + 1 ≡ b.quantum
+  pub before : Allowed net w (take k es)
+
+-- of the events of a script that was read for the plan nothing is refused but quanta, and those for staleness alone
+abbrev pub ScriptsAreCalm : Type 0
+ScriptsAreCalm = (p : Plan) (s : Said) → s.text ≡ text_of p → IsScript s
+    → Calm (net_of p) (start_of (net_of p)) (events_of (net_of p) (course_of s))
+
+-- without a breach all events are allowed
+abbrev pub UnbreachedAreAllowed : Type 0
+UnbreachedAreAllowed = (p : Plan) (s : Said) → s.text ≡ text_of p → IsScript s → breach_of_script p s ≡ None
+    → Allowed (net_of p) (start_of (net_of p)) (events_of (net_of p) (course_of s))
+
+-- and a breach is the first refusal
+abbrev pub BreachesAreFirst : Type 0
+BreachesAreFirst = (p : Plan) (s : Said) (b : Breach) → s.text ≡ text_of p → IsScript s → breach_of_script p s ≡ Some b
+    → (k : ℕ) × IsFirstRefusal (net_of p) 0 (start_of (net_of p)) (events_of (net_of p) (course_of s)) b k

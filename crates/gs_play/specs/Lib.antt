@@ -1,0 +1,16 @@
+pub mod Course
+pub mod Calendar
+pub mod Events
+pub mod Due
+pub mod Transits
+pub mod Feeds
+pub mod Seen
+pub mod Breach
+pub mod Played
+pub mod Calm
+pub mod Scripts
+pub mod Kept
+pub mod UnderWay
+pub mod Running
+pub mod Stops
+pub mod Laws

@@ -1,0 +1,62 @@
+ghost use Rattle.std.specs.Prelude.{◌≡◌, ◌+◌, length, IfErr, IfOk, None};
+ghost use Rattle.gs_plan.specs.Plans.{graph_of, text_of};
+ghost use Rattle.gs_play.specs.Kept.{IsWithinBounds, PlayKeepsBounds};
+ghost use Rattle.gs_play.specs.Scripts.{breach_of_script, report_of_script};
+ghost use Rattle.gs_play.specs.Stops.{StopsAt};
+
+use crate::feed::Feed;
+use crate::running::Running;
+use crate::stop::PlayStop;
+use gs_io::Gate;
+use gs_level::Report;
+use gs_plan::Plan;
+use gs_script::Script;
+use std::alloc::Global;
+
+/// Plays a script on its plan from equal clocks, and reports the skews of the clocks at the start and at
+/// the end of each quantum, in clock units. It stops at the first quantum that is not allowed, which is
+/// one where a node has heard nothing new of a neighbour for too long; a script can break no other rule.
+///
+/// One worker plays all nodes as one piece: it enters the gate before the start, and leaves it after the
+/// last event.
+pub fn play<G: Gate>(
+    alloc: Global,
+    plan: &Plan,
+    script: &Script,
+    workers: u32,
+    gate: &G,
+) -> Result<Report, PlayStop>
+    requires workers { workers ≡ 1 }
+    requires script { script.now.text ≡ text_of plan.now }
+    ensures no_breach { IfOk result (λ report. breach_of_script plan.now script.now ≡ None) }
+    ensures report { IfOk result (λ report. report ≡ report_of_script plan.now script.now) }
+    ensures levels { IfOk result (λ report. length report.levels ≡ (text_of plan.now).levels + 1) }
+    ensures kept { IfOk result (λ report. PlayKeepsBounds plan.now script.now) }
+    ensures within { IfOk result (IsWithinBounds (text_of plan.now) (graph_of plan.now)) }
+    ensures stop { IfErr result (StopsAt (breach_of_script plan.now script.now)) }
+{
+    let _one = workers;
+    gate.enter(0);
+    let result = play_piece(alloc, plan, script);
+    gate.leave(0);
+    result
+}
+
+/// Plays all nodes.
+fn play_piece(alloc: Global, plan: &Plan, script: &Script) -> Result<Report, PlayStop>
+    requires script { script.now.text ≡ text_of plan.now }
+    ensures no_breach { IfOk result (λ report. breach_of_script plan.now script.now ≡ None) }
+    ensures report { IfOk result (λ report. report ≡ report_of_script plan.now script.now) }
+    ensures levels { IfOk result (λ report. length report.levels ≡ (text_of plan.now).levels + 1) }
+    ensures kept { IfOk result (λ report. PlayKeepsBounds plan.now script.now) }
+    ensures within { IfOk result (IsWithinBounds (text_of plan.now) (graph_of plan.now)) }
+    ensures stop { IfErr result (StopsAt (breach_of_script plan.now script.now)) }
+{
+    let _within_bounds = script.quanta();
+    let mut feed = Feed::new(alloc, plan, script)?;
+    let mut running = Running::start(alloc, plan)?;
+    while let Some(event) = feed.next(alloc)? {
+        running.take(&event)?;
+    }
+    Ok(running.report(alloc)?)
+}
