@@ -1,1 +1,4 @@
+pub mod Done
 pub mod Growing
+pub mod Inputs
+pub mod Refusing

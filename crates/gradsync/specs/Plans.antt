@@ -1,6 +1,5 @@
 -- The plan that a PLAN word names, and what refuses it.
-use Rattle.std.specs.Prelude.{◌≡◌, ℕ, ◌-◌, ◌^◌, Bool, true, false, List, ◌++◌, Option, Some, None, Result, Ok, Err, codes, take, drop}
-use Rattle.std.specs.Str.{bytes_eq}
+use Rattle.std.specs.Prelude.{◌≡◌, ℕ, ◌-◌, ◌^◌, List, ◌++◌, Option, Some, None, Result, Ok, Err, codes}
 use Rattle.gs_planfile.specs.Meaning.{plan_of}
 use Rattle.gs_planfile.specs.Texts.{base_text, newest}
 use Rattle.gs_planfile.specs.declared.key.PlanFileFault.{PlanFileFault}
@@ -11,23 +10,10 @@ use Rattle.gs_plan.specs.declared.fault.PlanFault.{PlanFault}
 use Rattle.gradsync.specs.Answers.{Answer, line}
 use Rattle.gradsync.specs.Commands.{number_within}
 use Rattle.gradsync.specs.PlanTexts.{plan_text}
-use Rattle.gradsync.specs.Reading.{Read, Bytes, TooLong, Failed, IsReading}
 use Rattle.gradsync.specs.Refusals.{file_why, plan_why}
+use Rattle.gradsync.specs.Sources.{Shelves, Source, Count, Text, Given, Gave, source_of}
+use Rattle.gradsync.specs.declared.source.Kind.TheVariants as kind
 use Rattle.gradsync.specs.declared.status.Status.TheVariants as status
-
--- the word names a built-in plan
-abbrev pub is_base : List ℕ → Bool
-is_base word = bytes_eq (take 5 word) (codes "base:")
-
--- What a PLAN word gave: the number of a built-in plan, or what reading its file gave.
-pub data Given : Type 0 where
-  Base : List ℕ → Given
-  File : List ℕ → Read → Given
-
--- where a word gave this, of files that tell this content and have these counts of faults
-abbrev pub IsGiven : Option (List ℕ → Option (List ℕ)) → (List ℕ → ℕ) → (List ℕ → ℕ) → List ℕ → Given → Type 0
-IsGiven content before after word (Base count) = (is_base word ≡ true) × (count ≡ drop 5 word)
-IsGiven content before after word (File name read) = (is_base word ≡ false) × (name ≡ word) × IsReading content before after word 1048576 read
 
 -- a plan that is refused
 abbrev pub refused : List ℕ → Answer
@@ -43,15 +29,10 @@ abbrev pub parsed : Result PlanText PlanFileFault → Result PlanText Answer
 parsed (Ok text) = Ok text
 parsed (Err fault) = Err (refused (file_why fault))
 
-abbrev pub file_from : List ℕ → Read → Result PlanText Answer
-file_from name (Bytes bytes) = parsed (plan_of bytes)
-file_from name TooLong = Err (line status.TooLong (codes "too long: " ++ name))
-file_from name Failed = Err (line status.ReadFault (codes "read failed: " ++ name))
-
--- the text that was given
-abbrev pub text_from : Given → Result PlanText Answer
-text_from (Base count) = base_from (number_within 0 (2 ^ 32 - 1) count)
-text_from (File name read) = file_from name read
+-- the text that was read
+abbrev pub text_from : Source → Result PlanText Answer
+text_from (Count count) = base_from (number_within 0 (2 ^ 32 - 1) count)
+text_from (Text bytes) = parsed (plan_of bytes)
 
 -- a text, where its plan is accepted
 abbrev pub accepted : PlanText → Option PlanFault → Result PlanText Answer
@@ -62,9 +43,14 @@ abbrev pub checked : Result PlanText Answer → Result PlanText Answer
 checked (Err answer) = Err answer
 checked (Ok text) = accepted text (plan_fault text)
 
--- The accepted plan that was given, or what refuses it.
-abbrev pub plan_from : Given → Result PlanText Answer
-plan_from given = checked (text_from given)
+-- The text of the accepted plan that was read, or what refuses it.
+abbrev pub plan_in : Source → Result PlanText Answer
+plan_in source = checked (text_from source)
+
+-- the same where it could be read
+abbrev pub plan_from : Result Source Answer → Result PlanText Answer
+plan_from (Err answer) = Err answer
+plan_from (Ok source) = plan_in source
 
 -- the answer to `plan`
 abbrev pub planned : Result PlanText Answer → Answer
@@ -75,3 +61,13 @@ planned (Ok text) = record { status = status.Done; text = plan_text text (graph_
 abbrev pub IsMigrated : Result PlanText Answer → Answer → Type 0
 IsMigrated (Err refusal) answer = answer ≡ refusal
 IsMigrated (Ok text) answer = (answer.status ≡ status.Done) × (plan_of answer.text ≡ Ok (newest text))
+
+-- this answers `plan` with this word
+abbrev pub IsPlanAnswer : Shelves → List ℕ → Answer → Type 0
+IsPlanAnswer files word answer =
+    (given : Given) × Gave files kind.Plan word given × (answer ≡ planned (plan_from (source_of given)))
+
+-- this answers `migrate` with this word
+abbrev pub IsMigrateAnswer : Shelves → List ℕ → Answer → Type 0
+IsMigrateAnswer files word answer =
+    (given : Given) × Gave files kind.Plan word given × IsMigrated (plan_from (source_of given)) answer

@@ -1,27 +1,20 @@
 -- What a run of the program does.
-use Rattle.std.specs.Prelude.{◌≡◌, ℕ, ◌⊎◌, List, Option, Some, None}
-use Rattle.gradsync.specs.Answers.{Answer, Gives, usage, unbuilt, pair_count, answer_play}
-use Rattle.gradsync.specs.Commands.{Command, Plan, Play, Migrate, command_of}
-use Rattle.gradsync.specs.Plans.{Given, IsGiven, IsMigrated, plan_from, planned}
+use Rattle.std.specs.Prelude.{◌≡◌, ◌==◌, ℕ, ◌⊎◌, List, Option, Some, None}
+use Rattle.gradsync.specs.Answers.{Answer, Gives, usage, unbuilt}
+use Rattle.gradsync.specs.Commands as command
+use Rattle.gradsync.specs.Commands.{Command, Migrate, Play, command_of}
+use Rattle.gradsync.specs.Plans.{IsMigrateAnswer, IsPlanAnswer}
+use Rattle.gradsync.specs.Plays.{IsPlayBy}
+use Rattle.gradsync.specs.Sources.{Shelves}
 use Rattle.gradsync.specs.declared.status.Status.{Status}
 use Rattle.gradsync.specs.declared.status.Status.TheVariants.{OutOfMemory}
-
--- The files as they were found: what they hold, where they tell it, and the count of faults of each name before and after.
-pub record Shelves : Type 0 where
-  pub content : Option (List ℕ → Option (List ℕ))
-  pub before : List ℕ → ℕ
-  pub after : List ℕ → ℕ
-
--- the word PLAN gave this
-abbrev pub Gave : Shelves → List ℕ → Given → Type 0
-Gave files word given = IsGiven files.content files.before files.after word given
 
 -- this answers a command
 abbrev pub IsAnswerTo : Shelves → Option Command → Answer → Type 0
 IsAnswerTo files None answer = answer ≡ usage
-IsAnswerTo files (Some (Plan word)) answer = (given : Given) × Gave files word given × (answer ≡ planned (plan_from given))
-IsAnswerTo files (Some (Migrate word)) answer = (given : Given) × Gave files word given × IsMigrated (plan_from given) answer
-IsAnswerTo files (Some (Play plan script workers)) answer = answer ≡ answer_play (pair_count plan script workers)
+IsAnswerTo files (Some (command.Plan word)) answer = IsPlanAnswer files word answer
+IsAnswerTo files (Some (Migrate word)) answer = IsMigrateAnswer files word answer
+IsAnswerTo files (Some (Play plan script workers)) answer = IsPlayBy files plan script (workers == 1) answer
 IsAnswerTo files (Some _) answer = answer ≡ unbuilt
 
 -- This answers the words of a command line.

@@ -1,6 +1,7 @@
-use Rattle.std.specs.Prelude.{◌≡◌, Result, Err, ⊤}
+use Rattle.std.specs.Prelude.{◌≡◌, Result, Ok, Err, ⊤}
 use Rattle.gradsync.specs.Answers.{Answer}
 use Rattle.gradsync.specs.Reply.{answer_in}
+use Rattle.gradsync.specs.declared.reply.Reply.{Reply}
 use Rattle.gradsync.specs.declared.stop.Stop.{Stop}
 use Rattle.gradsync.specs.declared.stop.Stop.TheVariants.{Refused, OutOfMemory}
 
@@ -8,3 +9,13 @@ use Rattle.gradsync.specs.declared.stop.Stop.TheVariants.{Refused, OutOfMemory}
 abbrev pub StopsAt : {T : Type 0} → Result T Answer → Stop → Type 0
 StopsAt wanted (Refused reply) = wanted ≡ Err (answer_in reply)
 StopsAt wanted OutOfMemory = ⊤
+
+-- a stop that comes with an answer of this kind, or for want of memory
+abbrev pub StopsWith : (Answer → Type 0) → Stop → Type 0
+StopsWith IsWanted (Refused reply) = IsWanted (answer_in reply)
+StopsWith IsWanted OutOfMemory = ⊤
+
+-- what a command answers, stopped or not, is of this kind
+abbrev pub Answers : (Answer → Type 0) → Result Reply Stop → Type 0
+Answers IsWanted (Ok reply) = IsWanted (answer_in reply)
+Answers IsWanted (Err stop) = StopsWith IsWanted stop

@@ -10,13 +10,15 @@ use std::process::ExitCode;
 use std::rt::Env;
 
 mod command;
-mod given;
-mod pair;
 mod plan_text;
 mod plans;
+#[cfg(test)]
+mod play_tests;
+mod plays;
 mod reading;
 mod refusal;
 mod reply;
+mod source;
 mod status;
 mod stop;
 #[cfg(test)]

@@ -1,43 +1,31 @@
 //! The plan that a PLAN word names, and the answers to the commands that need no more: `docs/FORMATS.md`,
 //! "Commands" and "Fault lines".
 
-ghost use Rattle.std.specs.Prelude.{◌≡◌, ◌++◌, ◌-◌, ◌^◌, IfOk, IfErr, Ok};
+ghost use Rattle.std.specs.Prelude.{◌≡◌, ◌-◌, ◌^◌, IfOk, IfErr, Ok};
 ghost use Rattle.gs_planfile.specs.Meaning.{plan_of};
 ghost use Rattle.gs_planfile.specs.Texts.{IsText};
 ghost use Rattle.gs_plan.specs.Faults.{plan_fault};
 ghost use Rattle.gs_plan.specs.Plans.{text_of};
-ghost use Rattle.gradsync.specs.Answers.{line};
 ghost use Rattle.gradsync.specs.Commands.{number_within};
-ghost use Rattle.gradsync.specs.GivenSeen.{given_in};
-ghost use Rattle.gradsync.specs.Plans.{IsMigrated, accepted, base_from, file_from, parsed, plan_from, planned, refused, text_from};
-ghost use Rattle.gradsync.specs.ReadSeen.{read_in};
+ghost use Rattle.gradsync.specs.Plans.{IsMigrateAnswer, IsPlanAnswer, accepted, base_from, parsed};
+ghost use Rattle.gradsync.specs.Plans.{plan_in, refused, text_from};
 ghost use Rattle.gradsync.specs.Refusals.{file_why, plan_why};
 ghost use Rattle.gradsync.specs.Reply.{answer_in};
-ghost use Rattle.gradsync.specs.Stops.{StopsAt};
+ghost use Rattle.gradsync.specs.SourceSeen.{source_in};
+ghost use Rattle.gradsync.specs.Stops.{Answers, StopsAt};
 
-use crate::given::Given;
-use crate::reading::Reading;
 use crate::reply::Reply;
+use crate::source::{Kind, Source, read_source};
 use crate::status::Status;
 use crate::stop::Stop;
 use crate::{command, plan_text, refusal};
+use gs_io::Files;
 use gs_plan::{Plan, PlanFault};
 use gs_planfile::{PlanFileFault, PlanText};
 use gs_text::Lines;
 use std::alloc::{AllocError, Global};
 
 const NUMBER: &str = "plan refused: number\n";
-
-/// A line of a word and a name.
-fn name_line(alloc: Global, status: Status, word: &str, name: &str) -> Result<Reply, AllocError>
-    ensures { IfOk result (λ reply. answer_in reply ≡ line status (word.now ++ name.now)) }
-{
-    let mut text = Lines::new(alloc);
-    text.word(word)?;
-    text.word(name)?;
-    text.end()?;
-    Ok(Reply::Text(status, text))
-}
 
 /// The line that a plan file is refused with.
 fn file_refusal(alloc: Global, fault: &PlanFileFault) -> Result<Reply, AllocError>
@@ -86,38 +74,15 @@ fn parsed(alloc: Global, bytes: &[u8]) -> Result<PlanText, Stop>
     }
 }
 
-/// The text of a plan file that was read so.
-fn file_text(alloc: Global, name: &str, reading: &Reading) -> Result<PlanText, Stop>
-    ensures ok { IfOk result (λ text. file_from name.now (read_in reading.now) ≡ Ok text) }
+/// The text that was read.
+fn text_from(alloc: Global, source: &Source<'_>) -> Result<PlanText, Stop>
+    ensures ok { IfOk result (λ text. text_from (source_in source.now) ≡ Ok text) }
     ensures text { IfOk result IsText }
-    ensures err { IfErr result (StopsAt (file_from name.now (read_in reading.now))) }
+    ensures err { IfErr result (StopsAt (text_from (source_in source.now))) }
 {
-    match reading {
-        Reading::Bytes(bytes) => parsed(alloc, bytes),
-        Reading::TooLong => Err(Stop::Refused(name_line(
-            alloc,
-            Status::TooLong,
-            "too long: ",
-            name,
-        )?)),
-        Reading::Failed => Err(Stop::Refused(name_line(
-            alloc,
-            Status::ReadFault,
-            "read failed: ",
-            name,
-        )?)),
-    }
-}
-
-/// The text that was given.
-fn text_from(alloc: Global, given: &Given<'_>) -> Result<PlanText, Stop>
-    ensures ok { IfOk result (λ text. text_from (given_in given.now) ≡ Ok text) }
-    ensures text { IfOk result IsText }
-    ensures err { IfErr result (StopsAt (text_from (given_in given.now))) }
-{
-    match given {
-        Given::Base(count) => base_text(alloc, count),
-        Given::File(name, reading) => file_text(alloc, name, reading),
+    match source {
+        Source::Count(count) => base_text(alloc, count),
+        Source::Text(bytes) => parsed(alloc, bytes),
     }
 }
 
@@ -134,34 +99,34 @@ fn checked(alloc: Global, text: &PlanText) -> Result<Plan, Stop>
     }
 }
 
-/// The accepted plan that was given.
-fn plan_from(alloc: Global, given: &Given<'_>) -> Result<Plan, Stop>
-    ensures ok { IfOk result (λ plan. plan_from (given_in given.now) ≡ Ok (text_of plan)) }
+/// The accepted plan that was read.
+pub fn plan_in(alloc: Global, source: &Source<'_>) -> Result<Plan, Stop>
+    ensures ok { IfOk result (λ plan. plan_in (source_in source.now) ≡ Ok (text_of plan)) }
     ensures text { IfOk result (λ plan. IsText (text_of plan)) }
-    ensures err { IfErr result (StopsAt (plan_from (given_in given.now))) }
+    ensures err { IfErr result (StopsAt (plan_in (source_in source.now))) }
 {
-    let text = text_from(alloc, given)?;
+    let text = text_from(alloc, source)?;
     checked(alloc, &text)
 }
 
-/// What `plan` answers.
-pub fn planned(alloc: Global, given: &Given<'_>) -> Result<Reply, AllocError>
-    ensures { IfOk result (λ reply. answer_in reply ≡ planned (plan_from (given_in given.now))) }
+/// The answer to `plan PLAN`.
+pub fn plan_reply<F: Files>(alloc: Global, word: &str, files: &mut F) -> Result<Reply, Stop>
+    ensures { Answers
+        (IsPlanAnswer (record { content = F.content files.old; before = F.faults files.old; after = F.faults files.new }) word.now)
+        result }
 {
-    match plan_from(alloc, given) {
-        Ok(plan) => Ok(Reply::Text(Status::Done, plan_text::plan_text(alloc, &plan)?)),
-        Err(Stop::Refused(reply)) => Ok(reply),
-        Err(Stop::OutOfMemory) => Err(AllocError),
-    }
+    let source = read_source(alloc, files, Kind::Plan, word)?;
+    let plan = plan_in(alloc, &source)?;
+    Ok(Reply::Text(Status::Done, plan_text::plan_text(alloc, &plan)?))
 }
 
-/// What `migrate` answers.
-pub fn migrated(alloc: Global, given: &Given<'_>) -> Result<Reply, AllocError>
-    ensures { IfOk result (λ reply. IsMigrated (plan_from (given_in given.now)) (answer_in reply)) }
+/// The answer to `migrate PLAN`.
+pub fn migrate_reply<F: Files>(alloc: Global, word: &str, files: &mut F) -> Result<Reply, Stop>
+    ensures { Answers
+        (IsMigrateAnswer (record { content = F.content files.old; before = F.faults files.old; after = F.faults files.new }) word.now)
+        result }
 {
-    match plan_from(alloc, given) {
-        Ok(plan) => Ok(Reply::File(gs_planfile::migrate(alloc, plan.text())?)),
-        Err(Stop::Refused(reply)) => Ok(reply),
-        Err(Stop::OutOfMemory) => Err(AllocError),
-    }
+    let source = read_source(alloc, files, Kind::Plan, word)?;
+    let plan = plan_in(alloc, &source)?;
+    Ok(Reply::File(gs_planfile::migrate(alloc, plan.text())?))
 }

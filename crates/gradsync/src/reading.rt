@@ -1,6 +1,6 @@
-ghost use Rattle.std.specs.Prelude.{◌≡◌, IfOk};
+ghost use Rattle.std.specs.Prelude.{◌≡◌, ◌≤◌, ℕ, List, IfOk};
 ghost use Rattle.gradsync.specs.Reading.{IsReading};
-ghost use Rattle.gradsync.specs.ReadSeen.{read_in};
+ghost use Rattle.gradsync.specs.SourceSeen.{read_in};
 
 use gs_io::{FileStop, Files};
 use std::alloc::{AllocError, Global};
@@ -26,6 +26,7 @@ pub fn read_file<F: Files>(
     ensures reading { IfOk result (λ reading. IsReading (F.content files.old) (F.faults files.old) (F.faults files.new)
         name.now most (read_in reading)) }
     ensures same { F.content files.new ≡ F.content files.old }
+    ensures later { (other : List ℕ) → F.faults files.old other ≤ F.faults files.new other }
 {
     match files.read(alloc, name, most) {
         Ok(bytes) => Ok(Reading::Bytes(bytes)),

@@ -14,6 +14,17 @@ level 4 potential 0 pair 0 0 bound 2
 fast 0
 ";
 
+const ALONE: &str = "nodes 1 edges 0 quanta 0
+global 0 at 0 bound 2301
+neighbour 0 at 0 edge none bound 2301 level 0
+level 0 potential 0 pair 0 0 bound 2301
+level 1 potential 0 pair 0 0 bound 117
+level 2 potential 0 pair 0 0 bound 7
+level 3 potential 0 pair 0 0 bound 2
+level 4 potential 0 pair 0 0 bound 2
+fast 0
+";
+
 const USAGE: &str = "usage: gradsync plan, play, trace, audit, replay, gen or node\n";
 
 const LINE: &str = "version = 1
@@ -45,10 +56,10 @@ best 1 406493
 ";
 
 /// What a run answered, and what it wrote.
-type Ran = (Status, Vec<u8>);
+pub(crate) type Ran = (Status, Vec<u8>);
 
 /// Runs the words of a line over these files, with reads and writes of these numbers failing.
-fn run_with(
+pub(crate) fn run_with(
     rt: &HostRuntime,
     line: &str,
     files: &[(&str, &[u8])],
@@ -101,9 +112,9 @@ fn each_line_of_words_has_its_status_and_text(rt: HostRuntime) -> Result<(), Fai
         ("slots base:2 steady:9 4294967296 1", Status::Usage, USAGE),
         ("order base:2 steady:9 0", Status::Usage, USAGE),
         ("order base:2 steady:9 1048577", Status::Usage, USAGE),
-        ("play base:2 steady:10 64", Status::Unbuilt, "not built\n"),
-        ("play base:3 steady:1000 1", Status::Unbuilt, "not built\n"),
-        ("play base:2 s.csv 1", Status::Unbuilt, "not built\n"),
+        ("play base:1 steady:0 1", Status::Done, ALONE),
+        ("play base:2 steady:10 2", Status::Unbuilt, "not built\n"),
+        ("play missing.toml s.csv 64", Status::Unbuilt, "not built\n"),
         ("trace base:2 steady:9", Status::Unbuilt, "not built\n"),
         ("audit base:2 t", Status::Unbuilt, "not built\n"),
         ("replay base:2 4294967295 t", Status::Unbuilt, "not built\n"),
