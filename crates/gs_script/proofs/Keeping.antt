@@ -1,11 +1,16 @@
 -- What is kept of nodes and senders, one more at a time.
-use Rattle.std.proofs.Common.{◌≡◌, ◌∙◌, ◌<◌, ◌≤◌, ◌+◌, ℕ, zero, suc, List, [], ◌∷◌, ◌++◌, length, length-append, map, cond, get_or, slice_get, slice_index, unwrap_or, max, Some, Bool, true, false, refl, sym, ap, arith, inl, inr}
+use Rattle.std.proofs.Common.{◌≡◌, ◌≢◌, ◌∙◌, ◌<◌, ◌≤◌, ◌+◌, ℕ, List, [], ◌∷◌, ◌++◌, length, length-append, map, replicate, set, take, get_or, slice_get, slice_index, unwrap_or, max, not, Some, refl, sym, ap, arith, inl, inr}
 use Rattle.std.specs.List.{range_with_len}
+use Rattle.std.specs.List.Sorted.{IsStrictlyIncreasing}
+use Rattle.std.proofs.lemmas.List.Kept.{AllPairs-from_increasing, IsStrictlyIncreasing-filter}
 use Rattle.std.proofs.lemmas.Bool.{cases_lt}
-use Rattle.std.proofs.lemmas.List.{get_or-map, get_or_append_left, get_or_push, length-map}
+use Rattle.std.proofs.lemmas.List.{get_or-map, get_or-set_other, get_or-set_same, get_or_append_left, get_or_default, get_or_push, length-map, length-replicate, length-set, map-append, take_all, take_more}
+use Rattle.std.proofs.lemmas.List.Filters.{length-filter_both}
 use Rattle.std.proofs.lemmas.List.FromFn.{get_or-range_with_len, length-range_with_len}
-use Rattle.std.proofs.lemmas.Option.{get_or_from_slice_get, slice_get_within}
-use Rattle.gs_topo.specs.Graph.{Adjacent, adjacent, number_of}
+use Rattle.std.proofs.lemmas.Option.{get_or_from_slice_get}
+use Rattle.gs_topo.specs.Graph.{Graph, Adjacent, adjacent, neighbours_of, number_of}
+use Rattle.gs_topo.proofs.Members.{Contains-filter, Contains-range}
+use Rattle.gs_topo.proofs.Nearer.{neighbour_inside}
 use Rattle.gs_topo.proofs.Building.{map_range_more}
 use Rattle.gs_planfile.specs.declared.text.PlanText.{PlanText}
 use Rattle.gs_plan.specs.declared.edge.EdgeNumbers.{EdgeNumbers}
@@ -22,48 +27,61 @@ use Rattle.gs_script.specs.Lines.{last_said}
 use Rattle.gs_script.proofs.Latest.{kept_says}
 use Rattle.gs_script.specs.Kept.{first_value, HasAllWays, HasSenders, HasWays, least_between, node_of, way_of}
 
--- an element stays where it was
-get_left : {X : Type 0} (xs ys : List X) (k : ℕ) (x : X) → slice_get xs k ≡ Some x → slice_get (xs ++ ys) k ≡ Some x
-get_left [] ys k x h = cc h
-get_left (y ∷ xs) ys zero x h = h
-get_left (y ∷ xs) ys (suc k) x h = get_left xs ys k x h
+-- numbers from one on ascend
+range_ascends : (a n : ℕ) → IsStrictlyIncreasing (range_with_len a n)
+range_ascends a n = λ k h.
+    let count : length (range_with_len a n) ≡ n = length-range_with_len a n in
+    let here : slice_index (range_with_len a n) k ≡ a + k = get_or-range_with_len a n k 0 (omega (arith, count, h)) in
+    let next : slice_index (range_with_len a n) (k + 1) ≡ a + (k + 1) = get_or-range_with_len a n (k + 1) 0 (omega (arith, count, h)) in
+    omega (arith, here, next)
 
--- and a new one stands at the end
-get_last : {X : Type 0} (xs : List X) (x : X) → slice_get (xs ++ x ∷ []) (length xs) ≡ Some x
-get_last [] x = refl
-get_last (y ∷ xs) x = get_last xs x
+-- so do the neighbours of a node
+neighbours_ascend : (g : Graph) (v i j : ℕ) → i < j → j < length (neighbours_of g v) → slice_index (neighbours_of g v) i < slice_index (neighbours_of g v) j
+neighbours_ascend g v i j less inside =
+    AllPairs-from_increasing (neighbours_of g v) (IsStrictlyIncreasing-filter (adjacent g v) (range_with_len 0 g.nodes) (range_ascends 0 g.nodes)) i j 0 less inside
+
+-- a neighbour has a place among them
+place_of : (g : Graph) (v w : ℕ) → w < g.nodes → Adjacent g v w → (j : ℕ) × (j < length (neighbours_of g v)) × (slice_index (neighbours_of g v) j ≡ w)
+place_of g v w inside next =
+    let m = Contains-filter (adjacent g v) (range_with_len 0 g.nodes) w next (Contains-range 0 g.nodes w (omega arith) (omega (arith, inside))) in
+    (m.0, m.1, get_or_default (neighbours_of g v) m.0 0 w m.1 ∙ m.2)
+
+-- no more than there are nodes
+pub few_neighbours : (g : Graph) (v : ℕ) → length (neighbours_of g v) ≤ g.nodes
+few_neighbours g v =
+    let both = length-filter_both (adjacent g v) (λ w. not (adjacent g v w)) (λ w. refl) (range_with_len 0 g.nodes) in
+    omega (arith, both, length-range_with_len 0 g.nodes)
 
 -- no way
-pub ways-none : (t : PlanText) (lines : List Line) (v : ℕ) → HasWays t lines v 0 [] []
+pub ways-none : (t : PlanText) (lines : List Line) (v : ℕ) → HasWays t lines v 0 (replicate (graph_of_text t).nodes 0) []
 ways-none t lines v = record {
-  count = refl;
-  few = omega arith;
-  each = λ w h next. absurd (omega (arith, h));
+  count = length-replicate (graph_of_text t).nodes 0;
+  made = refl;
+  each = λ i h. absurd (omega (arith, h));
 }
 
--- one node more
-pub ways-more : (t : PlanText) (lines : List Line) (v n : ℕ) (index : List ℕ) (ways : List Way) → HasWays t lines v n index ways
-    → HasWays t lines v (n + 1) (index ++ length ways ∷ []) (ways ++ (cond (adjacent (graph_of_text t) v n) (way_of t lines v n ∷ []) []))
-ways-more t lines v n index ways has = record {
-  count = length-append index (length ways ∷ []) ∙ (let c = has.count in omega (arith, c));
-  few = (let added = more (adjacent (graph_of_text t) v n) in let few = has.few in omega (arith, added, few));
-  each = λ w h next. elim (cases_lt w n) [ inl lt ↦ old w lt next | inr le ↦ new w (omega (arith, h, le)) next ];
+-- one way more
+pub ways-more : (t : PlanText) (lines : List Line) (v k w : ℕ) (index : List ℕ) (ways : List Way) → k < length (neighbours_of (graph_of_text t) v)
+    → w ≡ slice_index (neighbours_of (graph_of_text t) v) k → HasWays t lines v k index ways → HasWays t lines v (k + 1) (set index w k) (ways ++ way_of t lines v w ∷ [])
+ways-more t lines v k w index ways inside is has = record {
+  count = length-set index w k ∙ has.count;
+  made = rw (has.made, is, take_more ns k 0 inside, map-append (way_of t lines v) (take k ns) (slice_index ns k ∷ [])) refl;
+  each = λ i h. elim (cases_lt i k) [ inl lt ↦ old i lt | inr le ↦ new i (omega (arith, h, le)) ];
 } where
-  more : (b : Bool) → length (ways ++ cond b (way_of t lines v n ∷ []) []) ≤ length ways + 1
-  more true = rw (length-append ways (way_of t lines v n ∷ [])) (omega arith)
-  more false = rw (length-append {A = Way} ways []) (omega arith)
+  ns : List ℕ
+  ns = neighbours_of (graph_of_text t) v
 
-  old : (w : ℕ) → w < n → Adjacent (graph_of_text t) v w → slice_get (ways ++ cond (adjacent (graph_of_text t) v n) (way_of t lines v n ∷ []) []) (slice_index (index ++ length ways ∷ []) w) ≡ Some (way_of t lines v w)
-  old w lt next =
-      let inside : w < length index = (let c = has.count in omega (arith, c, lt)) in
-      let same : slice_index (index ++ length ways ∷ []) w ≡ slice_index index w = get_or_append_left index (length ways ∷ []) 0 w inside in
-      rw same (get_left ways _ (slice_index index w) (way_of t lines v w) (has.each w lt next))
+  old : (i : ℕ) → i < k → slice_index (set index w k) (slice_index ns i) ≡ i
+  old i lt =
+      let less : slice_index ns i < slice_index ns k = neighbours_ascend (graph_of_text t) v i k lt inside in
+      let other : slice_index ns i ≢ w = λ same. omega (arith, less, same, is) in
+      get_or-set_other index w (slice_index ns i) k 0 other ∙ has.each i lt
 
-  new : (w : ℕ) → w ≡ n → Adjacent (graph_of_text t) v w → slice_get (ways ++ cond (adjacent (graph_of_text t) v n) (way_of t lines v n ∷ []) []) (slice_index (index ++ length ways ∷ []) w) ≡ Some (way_of t lines v w)
-  new w is next =
-      let place : slice_index (index ++ length ways ∷ []) w ≡ length ways = get_or_push index (length ways) 0 w (has.count ∙ sym is) in
-      let here : adjacent (graph_of_text t) v n ≡ true = ap (adjacent (graph_of_text t) v) (sym is) ∙ next in
-      rw (place, here, is) (get_last ways (way_of t lines v n))
+  new : (i : ℕ) → i ≡ k → slice_index (set index w k) (slice_index ns i) ≡ i
+  new i same =
+      let below = (neighbour_inside (graph_of_text t) v k 0 inside).0 in
+      let there : w < length index = (let c = has.count in omega (arith, below, is, c)) in
+      rw (same, ← is) (get_or-set_same index w k 0 there)
 
 -- no sender
 pub senders-none : (t : PlanText) (lines : List Line) → HasSenders t lines 0 []
@@ -91,7 +109,9 @@ least_by_number t v w e n number at =
 
 pub ruleset nodes = (map_range_more)
 
-pub ruleset senders = (ways-none, ways-more, senders-none, senders-more)
+pub ruleset ways_from = (ways-none, ways-more, neighbour_inside)
+
+pub ruleset senders = (senders-none, senders-more)
 
 pub ruleset least = (has_number, least_by_number)
 
@@ -119,9 +139,12 @@ tick_said lines n v t most ns d are h =
 pub way_at : (t : PlanText) (lines : List Line) (n v w : ℕ) (senders : List Sender) (s : Sender) (d : Way) → HasSenders t lines n senders → v < n → s ≡ get_or senders v s → w < (graph_of_text t).nodes → Adjacent (graph_of_text t) v w
     → (w < length s.index.items) × (slice_index s.index.items w < length s.ways.items) × (get_or s.ways.items (slice_index s.index.items w) d ≡ way_of t lines v w)
 way_at t lines n v w senders s d has inside is node next =
+    let ns = neighbours_of (graph_of_text t) v in
     let ways = rw (← is) at (has.each v s inside) in
     let count : length s.index.items ≡ (graph_of_text t).nodes = ways.count in
-    let at : slice_get s.ways.items (slice_index s.index.items w) ≡ Some (way_of t lines v w) = ways.each w node next in
-    (omega (arith, count, node), slice_get_within s.ways.items (slice_index s.index.items w) (way_of t lines v w) at, get_or_from_slice_get s.ways.items (slice_index s.index.items w) (way_of t lines v w) d at)
+    let place = place_of (graph_of_text t) v w node next in
+    let at : slice_index s.index.items w ≡ place.0 = rw place.2 at (ways.each place.0 place.1) in
+    let made : s.ways.items ≡ map (way_of t lines v) ns = ways.made ∙ ap (map (way_of t lines v)) (take_all (length ns) ns (omega arith)) in
+    (omega (arith, count, node), rw (at, made, length-map ns (way_of t lines v)) place.1, rw (at, made) (get_or-map (way_of t lines v) ns place.0 0 d place.1 ∙ ap (way_of t lines v) place.2))
 
 pub ruleset ways = (way_at)

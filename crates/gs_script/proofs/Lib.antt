@@ -1,6 +1,7 @@
 pub mod Texts
 pub mod RecordsRead
 pub mod Edges
+pub mod Between
 pub mod Delays
 pub mod Within
 pub mod Latest

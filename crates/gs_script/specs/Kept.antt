@@ -1,8 +1,8 @@
 -- How a script is kept: for its private functions alone.
-use Rattle.std.specs.Prelude.{◌≡◌, ℕ, ◌+◌, ◌<◌, ◌≤◌, Bool, false, List, [], ◌∷◌, ◌++◌, Option, Some, None, Result, Ok, Err, length, map, option_and_then, get_or, slice_get, slice_index, if◌then◌else◌}
+use Rattle.std.specs.Prelude.{◌≡◌, ℕ, ◌+◌, ◌<◌, ◌≤◌, Bool, false, List, [], ◌∷◌, ◌++◌, Option, None, Result, Ok, Err, length, map, option_and_then, get_or, slice_get, slice_index, take, if◌then◌else◌}
 use Rattle.std.specs.List.{range_with_len}
 use Rattle.std.specs.Option.{option_map_or, option_or}
-use Rattle.gs_topo.specs.Graph.{Adjacent}
+use Rattle.gs_topo.specs.Graph.{neighbours_of}
 use Rattle.gs_planfile.specs.declared.text.PlanText.{PlanText}
 use Rattle.gs_plan.specs.Edges.{edge_text}
 use Rattle.gs_plan.specs.Shapes.{graph_of_text}
@@ -93,15 +93,15 @@ way_of t lines v w = record {
   losses = latest (matches (topic.Loss v w)) 0 lines;
 }
 
--- the ways from v to its neighbours among the first n nodes stand where the index says
-pub record HasWays (t : PlanText) (lines : List Line) (v n : ℕ) (index : List ℕ) (ways : List Way) : Type 0 where
-  pub count : length index ≡ n
-  pub few : length ways ≤ n
-  pub each : (w : ℕ) → w < n → Adjacent (graph_of_text t) v w → slice_get ways (slice_index index w) ≡ Some (way_of t lines v w)
+-- the ways from v to the first k of its neighbours, and the place of each among them
+pub record HasWays (t : PlanText) (lines : List Line) (v k : ℕ) (index : List ℕ) (ways : List Way) : Type 0 where
+  pub count : length index ≡ (graph_of_text t).nodes
+  pub made : ways ≡ map (way_of t lines v) (take k (neighbours_of (graph_of_text t) v))
+  pub each : (i : ℕ) → i < k → slice_index index (slice_index (neighbours_of (graph_of_text t) v) i) ≡ i
 
--- the same among all nodes
+-- the ways to all its neighbours
 abbrev pub HasAllWays : PlanText → List Line → ℕ → Sender → Type 0
-HasAllWays t lines v sender = HasWays t lines v (graph_of_text t).nodes sender.index.items sender.ways.items
+HasAllWays t lines v sender = HasWays t lines v (length (neighbours_of (graph_of_text t) v)) sender.index.items sender.ways.items
 
 -- what is kept of the first n senders
 pub record HasSenders (t : PlanText) (lines : List Line) (n : ℕ) (senders : List Sender) : Type 0 where

@@ -135,9 +135,24 @@ fn is_any_bad(links: &[Link], v: Who, w: Who, delay: u64) -> bool
         .any(|link| link.meets(v, w) && link.is_bad(delay))
 }
 
+/// Whether a delay between two nodes is out of the range of their edge or, where no edge joins them, of
+/// the plan's own.
+#[tactic(auto, using(crate::proofs::Between::between))]
+fn is_outside_between(plan: &Plan, v: u32, w: u32, delay: u64) -> bool
+    ensures { result ≡ is_delay_outside (text_of plan.now) (Who.One v) (Who.One w) delay }
+{
+    match graph(plan).edge_between(v, w) {
+        Some(e) => {
+            let numbers = plan.edge(e);
+            is_bad_delay(numbers.delay_min, numbers.delay_max, delay)
+        }
+        None => is_bad_delay(plan.text().delay_min, plan.text().delay_max, delay),
+    }
+}
+
 /// Whether a delay is out of the range of an edge that is met or, where none is met, of the plan's own.
 #[tactic(auto, using(crate::proofs::Edges::ranges))]
-fn is_delay_outside(plan: &Plan, links: &[Link], v: Who, w: Who, delay: u64) -> bool
+fn is_outside_over(plan: &Plan, links: &[Link], v: Who, w: Who, delay: u64) -> bool
     requires { links.now ≡ links_of (text_of plan.now) }
     ensures { result ≡ is_delay_outside (text_of plan.now) v w delay }
 {
@@ -146,6 +161,17 @@ fn is_delay_outside(plan: &Plan, links: &[Link], v: Who, w: Who, delay: u64) -> 
         is_any_bad(links, v, w, delay)
     } else {
         is_bad_delay(text.delay_min, text.delay_max, delay)
+    }
+}
+
+/// The same, where two nodes are looked up by their edge.
+fn is_delay_outside(plan: &Plan, links: &[Link], v: Who, w: Who, delay: u64) -> bool
+    requires { links.now ≡ links_of (text_of plan.now) }
+    ensures { result ≡ is_delay_outside (text_of plan.now) v w delay }
+{
+    match (v, w) {
+        (Who::One(v), Who::One(w)) => is_outside_between(plan, v, w, delay),
+        _ => is_outside_over(plan, links, v, w, delay),
     }
 }
 

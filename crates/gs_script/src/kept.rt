@@ -1,6 +1,6 @@
-ghost use Rattle.std.specs.Prelude.{◌≡◌, ◌<◌, ◌≤◌, ◌++◌, ◌∷◌, [], IfOk, if◌then◌else◌, length, map};
+ghost use Rattle.std.specs.Prelude.{◌≡◌, ◌<◌, ◌≤◌, IfOk, length, map};
 ghost use Rattle.std.specs.List.{range_with_len};
-ghost use Rattle.gs_topo.specs.Graph.{Adjacent, adjacent};
+ghost use Rattle.gs_topo.specs.Graph.{Adjacent};
 ghost use Rattle.gs_plan.specs.Plans.{text_of};
 ghost use Rattle.gs_plan.specs.Shapes.{graph_of_text};
 ghost use Rattle.gs_script.specs.Kept.{HasAllWays, HasSenders, is_from, latest, least_between, node_of, way_of};
@@ -26,7 +26,7 @@ pub(crate) struct Way {
     pub(crate) losses: Places,
 }
 
-/// The ways from a node to its neighbours, and for each node its place among them, if it is one.
+/// The ways from a node to its neighbours, and for each of these its place among them.
 #[derive(Debug, Drop)]
 pub(crate) struct Sender {
     pub(crate) index: Vec<u16>,
@@ -34,12 +34,12 @@ pub(crate) struct Sender {
 }
 
 /// What is kept of a node, whose places are given.
-fn node_from(alloc: Global, lines: &[Line], from: &Places, v: u32) -> Result<Node, AllocError>
-    requires { from.now ≡ latest (is_from v) 0 lines.now }
+fn node_from(alloc: Global, lines: &[Line], places: &Places, v: u32) -> Result<Node, AllocError>
+    requires { places.now ≡ latest (is_from v) 0 lines.now }
     ensures { IfOk result (λ node. node ≡ node_of lines.now v) }
 {
-    let drifts = from.of(alloc, lines, Topic::Drift(v))?;
-    let ticks = from.of(alloc, lines, Topic::Tick(v))?;
+    let drifts = places.of_topic(alloc, lines, Topic::Drift(v))?;
+    let ticks = places.of_topic(alloc, lines, Topic::Tick(v))?;
     Ok(Node { drifts, ticks })
 }
 
@@ -60,16 +60,16 @@ fn way_to(
     alloc: Global,
     plan: &Plan,
     lines: &[Line],
-    from: &Places,
+    places: &Places,
     v: u32,
     w: u32,
 ) -> Result<Way, AllocError>
-    requires places { from.now ≡ latest (is_from v) 0 lines.now }
+    requires places { places.now ≡ latest (is_from v) 0 lines.now }
     requires neighbours { Adjacent (graph_of_text (text_of plan.now)) v w }
     ensures { IfOk result (λ way. way ≡ way_of (text_of plan.now) lines.now v w) }
 {
-    let delays = from.of(alloc, lines, Topic::Delay(v, w))?;
-    let losses = from.of(alloc, lines, Topic::Loss(v, w))?;
+    let delays = places.of_topic(alloc, lines, Topic::Delay(v, w))?;
+    let losses = places.of_topic(alloc, lines, Topic::Loss(v, w))?;
     Ok(Way {
         least: least_delay(plan, v, w),
         delays,
@@ -77,46 +77,26 @@ fn way_to(
     })
 }
 
-/// Adds the way from `v` to `w`, where they are neighbours.
-fn add_way(
-    alloc: Global,
-    ways: &mut Vec<Way>,
-    plan: &Plan,
-    lines: &[Line],
-    from: &Places,
-    v: u32,
-    w: u32,
-) -> Result<(), AllocError>
-    requires places { from.now ≡ latest (is_from v) 0 lines.now }
-    requires sender { v < (graph_of_text (text_of plan.now)).nodes }
-    requires receiver { w < (graph_of_text (text_of plan.now)).nodes }
-    ensures { IfOk result (λ _. ways.new.items
-        ≡ ways.old.items ++ (if adjacent (graph_of_text (text_of plan.now)) v w then way_of (text_of plan.now) lines.now v w ∷ [] else [])) }
-{
-    if graph(plan).adjacent(v, w) {
-        ways.push(way_to(alloc, plan, lines, from, v, w)?)?;
-    }
-    Ok(())
-}
-
 /// What is kept of a sender.
-#[tactic(auto, using(crate::proofs::Keeping::senders))]
+#[tactic(auto, using(crate::proofs::Keeping::ways_from))]
 fn ways_from(
     alloc: Global,
     plan: &Plan,
     lines: &[Line],
-    from: &Places,
+    places: &Places,
     v: u32,
 ) -> Result<Sender, AllocError>
-    requires places { from.now ≡ latest (is_from v) 0 lines.now }
+    requires places { places.now ≡ latest (is_from v) 0 lines.now }
     requires node { v < (graph_of_text (text_of plan.now)).nodes }
     ensures { IfOk result (HasAllWays (text_of plan.now) lines.now v) }
 {
-    let mut index = Vec::new(alloc);
+    let neighbours = graph(plan).neighbours(v);
+    let mut index = vec![in alloc; 0; graph(plan).nodes() as usize]?;
     let mut ways = Vec::new(alloc);
-    for w in 0..graph(plan).nodes() {
-        index.push(ways.len() as u16)?;
-        add_way(alloc, &mut ways, plan, lines, from, v, w)?;
+    for k in 0..neighbours.len() {
+        let w = neighbours[k];
+        index[w as usize] = k as u16;
+        ways.push(way_to(alloc, plan, lines, places, v, w)?)?;
     }
     Ok(Sender { index, ways })
 }
@@ -137,9 +117,9 @@ pub(crate) fn nodes_and_senders(
     let mut nodes = Vec::new(alloc);
     let mut senders = Vec::new(alloc);
     for v in 0..graph(plan).nodes() {
-        let from = Places::from(alloc, lines, v)?;
-        nodes.push(node_from(alloc, lines, &from, v)?)?;
-        senders.push(ways_from(alloc, plan, lines, &from, v)?)?;
+        let places = Places::of_node(alloc, lines, v)?;
+        nodes.push(node_from(alloc, lines, &places, v)?)?;
+        senders.push(ways_from(alloc, plan, lines, &places, v)?)?;
     }
     Ok((nodes, senders))
 }

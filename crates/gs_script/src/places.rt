@@ -53,7 +53,7 @@ fn is_set_at(lines: &[Line], place: u16, topic: Topic) -> bool
 impl Places {
     /// The places of the records of node `v` and of beacons that it sends.
     #[tactic(auto, using(crate::proofs::Latest::steps))]
-    pub(crate) fn from(alloc: Global, lines: &[Line], v: u32) -> Result<Self, AllocError>
+    pub(crate) fn of_node(alloc: Global, lines: &[Line], v: u32) -> Result<Self, AllocError>
         requires { length lines.now ≤ 4096 }
         ensures { IfOk result (λ places. places ≡ latest (is_from v) 0 lines.now) }
     {
@@ -68,7 +68,12 @@ impl Places {
 
     /// The places of the records that match a topic, among those from its node.
     #[tactic(auto, using(crate::proofs::Latest::choices))]
-    pub(crate) fn of(&self, alloc: Global, lines: &[Line], topic: Topic) -> Result<Self, AllocError>
+    pub(crate) fn of_topic(
+        &self,
+        alloc: Global,
+        lines: &[Line],
+        topic: Topic,
+    ) -> Result<Self, AllocError>
         requires { self.now ≡ latest (is_from (node_in topic)) 0 lines.now }
         ensures { IfOk result (λ places. places ≡ latest (matches topic) 0 lines.now) }
     {

@@ -1,7 +1,7 @@
 use Rattle.std.proofs.Common.{◌≡◌, ◌∙◌, ap, arith, length, take}
 use Rattle.std.proofs.lemmas.List.{take_all}
 use Rattle.gs_script.proofs.Latest.{chosen}
-use Rattle.gs_script.proofs.places.Places.of.Goals as goal
+use Rattle.gs_script.proofs.places.Places.of_topic.Goals as goal
 
 pub returns : goal.returns
 returns c =

@@ -1,7 +1,7 @@
 use Rattle.std.proofs.Common.{◌∙◌, sym}
 use Rattle.gs_plan.specs.Plans.{text_of}
 use Rattle.gs_script.proofs.Edges.{outside-met}
-use Rattle.gs_script.proofs.checks.is_delay_outside.Goals as goal
+use Rattle.gs_script.proofs.checks.is_outside_over.Goals as goal
 
 pub returns-then-is_any_met : goal.returns-then-is_any_met
 returns-then-is_any_met c =
