@@ -16,7 +16,7 @@ use Rattle.gradsync.specs.Plays.{IsPlayBy, IsPlayIn, IsPlayed, script_in}
 use Rattle.gradsync.specs.Reading.{Bytes, TooLong, Failed}
 use Rattle.gradsync.specs.Reply.{answer_in}
 use Rattle.gradsync.specs.Sources.{Shelves, Source, Given, BuiltIn, File, Gave, IsRead}
-use Rattle.gradsync.specs.Stops.{Answers, StopsWith}
+use Rattle.gradsync.specs.Stops.{EndsWith, StopsWith}
 use Rattle.gradsync.specs.declared.reply.Reply.{Reply}
 use Rattle.gradsync.specs.declared.source.Kind.{Kind}
 use Rattle.gradsync.specs.declared.source.Kind.TheVariants as kind
@@ -89,7 +89,7 @@ played_both first second plan script source told answer in_turn (given, gave, is
 
 pub both_read : (first second : Shelves) (plan script : List ℕ) (source told : Source) (done : Result Reply Stop)
     → IsLater first second → IsRead first kind.Plan plan (Ok source) → IsRead second kind.Script script (Ok told)
-    → Answers (IsPlayIn (plan_in source) told) done → Answers (IsPlayBy (both first second) plan script true) done
+    → EndsWith (IsPlayIn (plan_in source) told) done → EndsWith (IsPlayBy (both first second) plan script true) done
 both_read first second plan script source told (Ok reply) in_turn is_read is_told answers =
     played_both first second plan script source told (answer_in reply) in_turn is_read is_told answers
 both_read first second plan script source told (Err (Refused reply)) in_turn is_read is_told answers =
@@ -98,7 +98,7 @@ both_read first second plan script source told (Err OutOfMemory) in_turn is_read
 
 -- a stop that is handed on
 pub stopped : (Is : Answer → Type 0) (result : Result Reply Stop) (stop : Stop)
-    → IsErrAnd result (λ found. found ≡ stop) → StopsWith Is stop → Answers Is result
+    → IsErrAnd result (λ found. found ≡ stop) → StopsWith Is stop → EndsWith Is result
 stopped Is (Ok reply) stop found stops = absurd found
 stopped Is (Err end) stop found stops = subst (StopsWith Is) (sym found) stops
 

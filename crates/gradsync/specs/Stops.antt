@@ -15,7 +15,7 @@ abbrev pub StopsWith : (Answer → Type 0) → Stop → Type 0
 StopsWith IsWanted (Refused reply) = IsWanted (answer_in reply)
 StopsWith IsWanted OutOfMemory = ⊤
 
--- what a command answers, stopped or not, is of this kind
-abbrev pub Answers : (Answer → Type 0) → Result Reply Stop → Type 0
-Answers IsWanted (Ok reply) = IsWanted (answer_in reply)
-Answers IsWanted (Err stop) = StopsWith IsWanted stop
+-- a command ends with an answer of this kind, stopped or not, or for want of memory
+abbrev pub EndsWith : (Answer → Type 0) → Result Reply Stop → Type 0
+EndsWith IsWanted (Ok reply) = IsWanted (answer_in reply)
+EndsWith IsWanted (Err stop) = StopsWith IsWanted stop

@@ -12,7 +12,7 @@ ghost use Rattle.gradsync.specs.Plans.{plan_in, refused, text_from};
 ghost use Rattle.gradsync.specs.Refusals.{file_why, plan_why};
 ghost use Rattle.gradsync.specs.Reply.{answer_in};
 ghost use Rattle.gradsync.specs.SourceSeen.{source_in};
-ghost use Rattle.gradsync.specs.Stops.{Answers, StopsAt};
+ghost use Rattle.gradsync.specs.Stops.{EndsWith, StopsAt};
 
 use crate::reply::Reply;
 use crate::source::{Kind, Source, read_source};
@@ -111,7 +111,7 @@ pub fn plan_in(alloc: Global, source: &Source<'_>) -> Result<Plan, Stop>
 
 /// The answer to `plan PLAN`.
 pub fn plan_reply<F: Files>(alloc: Global, word: &str, files: &mut F) -> Result<Reply, Stop>
-    ensures { Answers
+    ensures { EndsWith
         (IsPlanAnswer (record { content = F.content files.old; before = F.faults files.old; after = F.faults files.new }) word.now)
         result }
 {
@@ -122,7 +122,7 @@ pub fn plan_reply<F: Files>(alloc: Global, word: &str, files: &mut F) -> Result<
 
 /// The answer to `migrate PLAN`.
 pub fn migrate_reply<F: Files>(alloc: Global, word: &str, files: &mut F) -> Result<Reply, Stop>
-    ensures { Answers
+    ensures { EndsWith
         (IsMigrateAnswer (record { content = F.content files.old; before = F.faults files.old; after = F.faults files.new }) word.now)
         result }
 {

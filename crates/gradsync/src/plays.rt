@@ -12,7 +12,7 @@ ghost use Rattle.gradsync.specs.Plays.{IsPlayBy, IsPlayIn, IsPlayed, breached, s
 ghost use Rattle.gradsync.specs.Plays.{script_in, script_refused, steady_from};
 ghost use Rattle.gradsync.specs.Reply.{answer_in};
 ghost use Rattle.gradsync.specs.SourceSeen.{source_in};
-ghost use Rattle.gradsync.specs.Stops.{Answers, StopsAt};
+ghost use Rattle.gradsync.specs.Stops.{EndsWith, StopsAt};
 
 use crate::reply::Reply;
 use crate::source::{Kind, Source, read_source};
@@ -125,7 +125,7 @@ fn play_sources<G: Gate>(
     script: &Source<'_>,
     gate: &G,
 ) -> Result<Reply, Stop>
-    ensures { Answers (IsPlayIn (plan_in (source_in plan.now)) (source_in script.now)) result }
+    ensures { EndsWith (IsPlayIn (plan_in (source_in plan.now)) (source_in script.now)) result }
 {
     let plan = plans::plan_in(alloc, plan)?;
     let script = script_in(alloc, script, &plan)?;
@@ -140,7 +140,7 @@ pub fn play_reply<F: Files, G: Gate>(
     files: &mut F,
     gate: &G,
 ) -> Result<Reply, Stop>
-    ensures { Answers
+    ensures { EndsWith
         (IsPlayBy
         (record { content = F.content files.old; before = F.faults files.old; after = F.faults files.new })
         plan.now script.now true)

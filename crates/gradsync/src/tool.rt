@@ -2,7 +2,7 @@ ghost use Rattle.std.specs.Prelude.{◌≡◌, ◌==◌, ◌⊎◌, map, string_
 ghost use Rattle.gradsync.specs.Commands.{command_of};
 ghost use Rattle.gradsync.specs.Meaning.{meaning};
 ghost use Rattle.gradsync.specs.Plays.{IsPlayBy};
-ghost use Rattle.gradsync.specs.Stops.{Answers};
+ghost use Rattle.gradsync.specs.Stops.{EndsWith};
 ghost use Rattle.gradsync.specs.Completeness.{CompletesPlans, CompletesPlays};
 ghost use Rattle.gradsync.specs.Headline.{PlaysKeepBounds};
 ghost use Rattle.gradsync.specs.Runs.{IsAnswer, IsAnswerTo, Runs};
@@ -66,7 +66,7 @@ fn answer<F: Files, G: Gate>(
     files: &mut F,
     gate: &G,
 ) -> Result<Reply, Stop>
-    ensures answer { Answers
+    ensures answer { EndsWith
         (IsAnswer
         (record { content = F.content files.old; before = F.faults files.old; after = F.faults files.new })
         (map string_bytes words.now))
@@ -87,7 +87,7 @@ fn answer_to<F: Files, G: Gate>(
     files: &mut F,
     gate: &G,
 ) -> Result<Reply, Stop>
-    ensures { Answers
+    ensures { EndsWith
         (IsAnswerTo
         (record { content = F.content files.old; before = F.faults files.old; after = F.faults files.new })
         (Some (meaning command.entry)))
@@ -114,7 +114,7 @@ fn play<F: Files, G: Gate>(
     files: &mut F,
     gate: &G,
 ) -> Result<Reply, Stop>
-    ensures { Answers
+    ensures { EndsWith
         (IsPlayBy
         (record { content = F.content files.old; before = F.faults files.old; after = F.faults files.new })
         plan.now script.now (workers == 1))

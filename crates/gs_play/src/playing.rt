@@ -16,9 +16,12 @@ use std::alloc::Global;
 /// Plays a script on its plan from equal clocks, and reports the skews of the clocks at the start and at
 /// the end of each quantum, in clock units. It stops at the first quantum that is not allowed, which is
 /// one where a node has heard nothing new of a neighbour for too long; a script can break no other rule.
+/// Every play that ends with a report keeps the bounds of the plan: see [`scripts_keep_bounds`].
 ///
 /// One worker plays all nodes as one piece: it enters the gate before the start, and leaves it after the
 /// last event.
+///
+/// [`scripts_keep_bounds`]: crate::scripts_keep_bounds
 pub fn play<G: Gate>(
     alloc: Global,
     plan: &Plan,
@@ -42,7 +45,7 @@ pub fn play<G: Gate>(
     result
 }
 
-/// Plays all nodes.
+/// Plays all nodes, as `play` says.
 fn play_piece(alloc: Global, plan: &Plan, script: &Script) -> Result<Report, PlayStop>
     requires script { script.now.text ≡ text_of plan.now }
     ensures no_breach { IfOk result (λ report. breach_of_script plan.now script.now ≡ None) }
@@ -52,6 +55,7 @@ fn play_piece(alloc: Global, plan: &Plan, script: &Script) -> Result<Report, Pla
     ensures within { IfOk result (IsWithinBounds (text_of plan.now) (graph_of plan.now)) }
     ensures stop { IfErr result (StopsAt (breach_of_script plan.now script.now)) }
 {
+    // From here on it is known that the script keeps the bounds of its plan.
     let _within_bounds = script.quanta();
     let mut feed = Feed::new(alloc, plan, script)?;
     let mut running = Running::start(alloc, plan)?;
