@@ -68,7 +68,8 @@ pub fn encode(b: &Beacon) -> [u8; 40]
 /// Writes what tells a beacon and its sender: the first 16 bytes.
 fn write_head(bytes: &mut [u8], cluster: u32, sender: u32)
     requires { 16 ≤ length bytes.old }
-    ensures { bytes.new ≡ (big_bytes 4 MAGIC ++ (big_bytes 4 cluster ++ (big_bytes 4 sender ++ big_bytes 4 0))) ++ drop 16 bytes.old }
+    ensures { bytes.new ≡ (big_bytes 4 MAGIC ++ (big_bytes 4 cluster ++ (big_bytes 4 sender ++ big_bytes 4 0)))
+        ++ drop 16 bytes.old }
 {
     BigEndian::write_u32(bytes, MAGIC);
     BigEndian::write_u32(&mut bytes[4..], cluster);

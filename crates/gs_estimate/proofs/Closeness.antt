@@ -1,20 +1,21 @@
 use Rattle.std.proofs.Common.{◌≡◌, ℕ, ◌+◌, ◌-◌, ◌*◌, ◌≤◌, arith}
 use Rattle.std.proofs.Math.Nat.{mul-le-mul_left, mul-le-mul_right, mul-add, add-mul}
-use Rattle.gs_units.specs.Rates.{top_of, gap_of}
+use Rattle.gs_units.specs.Delays.{delay_spread}
+use Rattle.gs_units.specs.Rates.{drift_of, top_of, r_of}
 use Rattle.gs_units.specs.declared.rate.Rate.{Rate}
-use Rattle.gs_estimate.specs.EdgeError.{drift_of, spread_of, BeaconIsClose, StartIsClose, OffsetStaysClose}
+use Rattle.gs_estimate.specs.EdgeError.{BeaconIsClose, StartIsClose, OffsetStaysClose}
 
 -- both kinds of growth over k quanta, as lo for each quantum and what may come on top
 pub record Splits (rate : Rate) (k : ℕ) : Type 0 where
-  pub reading : rate.hi * k ≡ rate.lo * k + gap_of rate * k
+  pub reading : rate.hi * k ≡ rate.lo * k + r_of rate * k
   pub clock : top_of rate * k ≡ rate.lo * k + drift_of rate * k
-  pub less : gap_of rate * k ≤ drift_of rate * k
+  pub less : r_of rate * k ≤ drift_of rate * k
 
 pub growth-splits : (rate : Rate) (k : ℕ) → Splits rate k
 growth-splits rate k =
-    let hi_is : rate.lo + gap_of rate ≡ rate.hi = omega (arith, rate.accepted.above) in
+    let hi_is : rate.lo + r_of rate ≡ rate.hi = omega (arith, rate.accepted.above) in
     let top_is : rate.lo + drift_of rate ≡ top_of rate = omega (arith, rate.accepted.above) in
-    let hi : (rate.lo + gap_of rate) * k ≡ rate.lo * k + gap_of rate * k = add-mul rate.lo (gap_of rate) k in
+    let hi : (rate.lo + r_of rate) * k ≡ rate.lo * k + r_of rate * k = add-mul rate.lo (r_of rate) k in
     let top : (rate.lo + drift_of rate) * k ≡ rate.lo * k + drift_of rate * k = add-mul rate.lo (drift_of rate) k in
     record {
       reading = rw hi_is at hi;
@@ -30,7 +31,7 @@ beacon_is_close rate soonest latest way kept age clock grown e now delay within 
     let grows = growth-splits rate (way + kept) in
     let least : lo * soonest ≤ lo * way = mul-le-mul_left lo delay.0 in
     let most : lo * way ≤ lo * (soonest + (latest - soonest)) = mul-le-mul_left lo (omega (arith, delay)) in
-    let span : lo * (soonest + (latest - soonest)) ≡ lo * soonest + spread_of rate soonest latest = mul-add lo soonest (latest - soonest) in
+    let span : lo * (soonest + (latest - soonest)) ≡ lo * soonest + delay_spread rate.lo soonest latest = mul-add lo soonest (latest - soonest) in
     let both : lo * (way + kept) ≡ lo * way + lo * kept = mul-add lo way kept in
     let drift : drift_of rate * (way + kept) ≡ drift_of rate * way + drift_of rate * kept = mul-add (drift_of rate) way kept in
     let bound : drift_of rate * (way + kept) ≤ drift_of rate * age = mul-le-mul_left (drift_of rate) within in

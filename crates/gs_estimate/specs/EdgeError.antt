@@ -1,5 +1,6 @@
 use Rattle.std.specs.Prelude.{◌≡◌, ℕ, ◌+◌, ◌-◌, ◌*◌, ◌/◌, ◌≤◌}
-use Rattle.gs_units.specs.Rates.{top_of}
+use Rattle.gs_units.specs.Delays.{delay_comp, delay_spread}
+use Rattle.gs_units.specs.Rates.{drift_of, top_of}
 use Rattle.gs_units.specs.declared.rate.Rate.{Rate}
 use Rattle.gs_estimate.specs.Entries.{estimate_of}
 use Rattle.gs_estimate.specs.declared.slots.Entry.{Entry}
@@ -22,18 +23,6 @@ IsClockGrowth rate k x = IsGrowth rate.lo (top_of rate) k x
 abbrev pub IsDelay : ℕ → ℕ → ℕ → Type 0
 IsDelay soonest latest k = (soonest ≤ k) × (k ≤ latest)
 
--- j: how much the delays of an edge spread, in clock units
-abbrev pub spread_of : Rate → ℕ → ℕ → ℕ
-spread_of rate soonest latest = rate.lo * (latest - soonest)
-
--- what a beacon's clock is raised by for its way
-abbrev pub comp_of : Rate → ℕ → ℕ → ℕ
-comp_of rate soonest latest = rate.lo * soonest + spread_of rate soonest latest / 2
-
--- how far two logical clocks may drift apart in one quantum
-abbrev pub drift_of : Rate → ℕ
-drift_of rate = top_of rate - rate.lo
-
 -- an estimate is as close to the true clock as the drift and the spread of the delays allow
 pub record IsClose (drift spread estimate clock : ℕ) : Type 0 where
   pub most : estimate ≤ clock + drift + spread / 2
@@ -44,8 +33,9 @@ pub record IsClose (drift spread estimate clock : ℕ) : Type 0 where
 abbrev pub BeaconIsClose : Type 0
 BeaconIsClose = (rate : Rate) (soonest latest way kept age clock grown : ℕ) (e : Entry) (now : ℕ)
     → IsDelay soonest latest way → way + kept ≤ age
-    → e.value ≡ clock + comp_of rate soonest latest → IsReadingGrowth rate kept (now - e.at) → IsClockGrowth rate (way + kept) grown
-    → IsClose (drift_of rate * age) (spread_of rate soonest latest) (estimate_of e now) (clock + grown)
+    → e.value ≡ clock + delay_comp rate.lo soonest latest
+    → IsReadingGrowth rate kept (now - e.at) → IsClockGrowth rate (way + kept) grown
+    → IsClose (drift_of rate * age) (delay_spread rate.lo soonest latest) (estimate_of e now) (clock + grown)
 
 -- So is the entry of a start from equal clocks, `kept` quanta ago.
 abbrev pub StartIsClose : Type 0

@@ -1,4 +1,4 @@
-use Rattle.std.specs.Prelude.{ℕ, ℤ, pos, neg_ℤ, ◌-ℤ◌, ◌≤ℤ◌, ◌+◌, ◌-◌, ◌^◌, List, Bool, nat_lt, if◌then◌else◌, slice_index_or, slice_set}
+use Rattle.std.specs.Prelude.{ℕ, ℤ, pos, ◌-ℤ◌, ◌+◌, ◌-◌, List, Bool, nat_lt, if◌then◌else◌, slice_index_or, slice_set}
 use Rattle.gs_estimate.specs.declared.slots.Entry.{Entry}
 use Rattle.gs_estimate.specs.declared.slots.Heard.{Heard}
 use Rattle.gs_estimate.specs.declared.slots.Heard.TheVariants.{Fresh, Old}
@@ -10,10 +10,6 @@ estimate_of e now = e.value + (now - e.at)
 -- how far the estimate is ahead of the clock l
 abbrev pub offset_of : ℕ → ℕ → Entry → ℤ
 offset_of l now e = pos (estimate_of e now) -ℤ pos l
-
--- what the offsets of clocks below 2^62 stay within
-abbrev pub IsWithin : ℤ → Type 0
-IsWithin x = (neg_ℤ (pos (2 ^ 64)) ≤ℤ x) × (x ≤ℤ pos (2 ^ 64))
 
 -- the entry of the neighbour at a place
 abbrev pub entry_at : List Entry → ℕ → Entry

@@ -1,5 +1,6 @@
 ghost use Rattle.std.specs.Prelude.{◌≡◌, ◌<◌, ◌≤◌, ◌↔◌, IsTrue, IfOk, All, List, [], length, map, replicate};
-ghost use Rattle.gs_estimate.specs.Entries.{answer_of, entry_at, heard_at, offset_of, IsWithin};
+ghost use Rattle.gs_units.specs.Offsets.{IsOffset};
+ghost use Rattle.gs_estimate.specs.Entries.{answer_of, entry_at, heard_at, offset_of};
 
 use gs_units::END;
 use std::alloc::{AllocError, Global};
@@ -115,7 +116,7 @@ impl Slots {
         requires values { All (λ e. e.value < END) self.now }
         requires now { now < END }
         ensures offsets { out.new ≡ map (offset_of l now) self.now }
-        ensures within { All IsWithin out.new }
+        ensures within { All IsOffset out.new }
     {
         for (i, entry) in self.entries.iter().enumerate() {
             out[i] = offset(entry, now, l);

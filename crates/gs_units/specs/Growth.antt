@@ -7,7 +7,8 @@ use Rattle.gs_units.specs.declared.rate.Mode.TheVariants.{Slow, Fast}
 abbrev pub IsIncrement : Rate → ℕ → Type 0
 IsIncrement rate h = (rate.lo ≤ h) × (h ≤ rate.hi)
 
--- what a quantum of h adds to the clock of each mode and to the creep, where the hardware clock stands x above their base
+-- what a quantum of h adds to the clock of each mode and to the creep, where the hardware clock stands x above their
+-- base
 pub record GrowsBy (rate : Rate) (x h : ℕ) : Type 0 where
   pub slow : steer_of rate Slow (x + h) ≡ steer_of rate Slow x + h
   pub fast_least : steer_of rate Fast x + (rate.lo + q_of rate) ≤ steer_of rate Fast (x + h)
@@ -20,4 +21,5 @@ GrowsInEachQuantum = (rate : Rate) (x h : ℕ) → IsIncrement rate h → GrowsB
 
 -- Growth, for many: the creep of k quanta is at most lo for each
 abbrev pub CreepsAtMostByLo : Type 0
-CreepsAtMostByLo = (rate : Rate) (hs : List ℕ) → All (IsIncrement rate) hs → creep_of rate (sum hs) ≤ rate.lo * length hs
+CreepsAtMostByLo = (rate : Rate) (hs : List ℕ) → All (IsIncrement rate) hs
+    → creep_of rate (sum hs) ≤ rate.lo * length hs

@@ -1,5 +1,8 @@
 pub mod Accepted
 pub mod Faults
 pub mod Rates
+pub mod Delays
+pub mod Offsets
 pub mod Growth
 pub mod Params
+pub mod Words

@@ -3,10 +3,14 @@ use Rattle.std.specs.List.Sorted.{IsStrictlyIncreasing}
 use Rattle.gs_units.specs.declared.params.Link.{Link}
 use Rattle.gs_units.specs.declared.params.NodeParams.{NodeParams}
 
--- the numbers that a link may have: the margin keeps the two triggers apart
-pub record IsSound (link : Link) : Type 0 where
+-- a link whose margin keeps the two triggers apart
+pub record HasMargin (link : Link) : Type 0 where
   pub margin : 2 * link.delta < link.kappa
   pub kappa : link.kappa < 2 ^ 62
+
+-- the numbers that a link may have
+pub record IsSound (link : Link) : Type 0 where
+  pub triggers : HasMargin link
   pub comp : link.comp < 2 ^ 47
   pub jump : link.jump < 2 ^ 47
 

@@ -24,8 +24,8 @@ steer_of rate Slow h = h
 steer_of rate Fast h = h + boost_of rate h
 
 -- r: how far two hardware clocks may drift apart in one quantum
-abbrev pub gap_of : Rate → ℕ
-gap_of rate = rate.hi - rate.lo
+abbrev pub r_of : Rate → ℕ
+r_of rate = rate.hi - rate.lo
 
 -- the least boost of one quantum
 abbrev pub q_of : Rate → ℕ
@@ -39,6 +39,10 @@ g_of rate = creep_of rate rate.lo
 abbrev pub top_of : Rate → ℕ
 top_of rate = rate.hi + boost_of rate rate.hi + 1
 
--- how often the drift of one quantum goes into the boost
+-- how far two logical clocks may drift apart in one quantum
+abbrev pub drift_of : Rate → ℕ
+drift_of rate = top_of rate - rate.lo
+
+-- how many times the drift of one quantum goes into its boost
 abbrev pub sigma_of : Rate → ℕ
-sigma_of rate = q_of rate / gap_of rate
+sigma_of rate = q_of rate / r_of rate

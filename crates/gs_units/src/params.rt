@@ -60,9 +60,9 @@ pub struct NodeParams {
     pub links: Links,
     /// How fast clocks may run.
     pub rate: Rate,
-    /// How far the maximum has to be ahead of the clock, in clock units, for a node that neither
-    /// trigger holds to be fast.
+    /// How far the maximum has to be ahead of the clock, in clock units, for a node to be fast where
+    /// neither trigger holds.
     pub iota: u64,
-    /// The node sends a beacon at each tick of this number.
+    /// The node sends a beacon at every `every`-th tick.
     pub every: u32,
 }

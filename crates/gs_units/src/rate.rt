@@ -1,6 +1,9 @@
 ghost use Rattle.std.specs.Prelude.{◌≡◌, ◌*◌, ◌<◌, ◌≤◌, ◌^◌, ◌↔◌, ◌⊎◌, Some, None, IfOk, IfErr};
 ghost use Rattle.gs_units.specs.Accepted.{AreRates};
 
+use std::error::Error;
+use std::fmt;
+
 /// Readings, clocks and maxima stay below this number of clock units.
 pub const END: u64 = 1 << 62;
 
@@ -24,6 +27,22 @@ pub enum RateFault {
     Boost,
 }
 
+impl fmt::Display for RateFault {
+    ghost use Rattle.gs_units.specs.Words.{why_of};
+
+    ghost output = { λ f. Some (why_of f) };
+
+    fn fmt<W: fmt::Write>(&self, f: &mut fmt::Formatter<W>) -> fmt::Result {
+        match self {
+            RateFault::Low => f.write_str("low"),
+            RateFault::High => f.write_str("high"),
+            RateFault::Boost => f.write_str("boost"),
+        }
+    }
+}
+
+impl Error for RateFault {}
+
 /// How fast clocks may run: a hardware clock adds `lo` to `hi` units in one quantum, and the fast
 /// mode adds `mu` parts per million to that. Every value of this type was accepted by `new`.
 #[derive(Clone, Copy, Debug, PartialEq, Eq)]
@@ -36,7 +55,7 @@ pub struct Rate {
 
 impl Rate {
     ghost use Rattle.gs_units.specs.Faults.{rate_fault};
-    ghost use Rattle.gs_units.specs.Rates.{HasNumbers, boost_of, creep_of, gap_of, q_of, g_of, top_of, sigma_of, steer_of};
+    ghost use Rattle.gs_units.specs.Rates.{HasNumbers, boost_of, creep_of, r_of, q_of, g_of, top_of, sigma_of, steer_of};
 
     /// Takes the numbers of a plan. See `docs/MODEL.md`, "The numbers of a plan".
     pub fn new(lo: u32, hi: u32, mu: u32) -> Result<Rate, RateFault>
@@ -46,7 +65,8 @@ impl Rate {
         // The same, fault by fault.
         ensures low { (result ≡ Err RateFault.Low) ↔ (lo ≡ 0) }
         ensures high { (result ≡ Err RateFault.High) ↔ ((1 ≤ lo) × ((hi ≤ lo) ⊎ (2 ^ 30 < hi))) }
-        ensures boost { (result ≡ Err RateFault.Boost) ↔ ((1 ≤ lo) × (lo < hi) × (hi ≤ 2 ^ 30) × ((mu ≡ 0) ⊎ (100000 < mu))) }
+        ensures boost { (result ≡ Err RateFault.Boost)
+            ↔ ((1 ≤ lo) × (lo < hi) × (hi ≤ 2 ^ 30) × ((mu ≡ 0) ⊎ (100000 < mu))) }
     {
         if lo == 0 {
             return Err(RateFault::Low);
@@ -83,7 +103,7 @@ impl Rate {
 
     /// How far two hardware clocks may drift apart in one quantum: `hi - lo`.
     pub fn r(&self) -> u64
-        ensures { result ≡ gap_of self.now }
+        ensures { result ≡ r_of self.now }
     {
         u64::from(self.hi - self.lo)
     }
@@ -127,7 +147,7 @@ impl Rate {
         u64::from(self.hi) + self.boost(u64::from(self.hi)) + 1
     }
 
-    /// How often the drift of one quantum goes into the boost: `floor(q / r)`.
+    /// How many times the drift `r` of one quantum goes into its boost `q`: `floor(q / r)`.
     pub fn sigma(&self) -> u64
         ensures { result ≡ sigma_of self.now }
     {

@@ -2,6 +2,18 @@ use crate::{END, Link, Links, Mode, NodeParams, Rate, RateFault, growth};
 use std::test::Fail;
 
 #[test]
+fn each_fault_has_its_words(rt: HostRuntime) -> Result<(), Fail> {
+    for (fault, words) in [
+        (RateFault::Low, "low"),
+        (RateFault::High, "high"),
+        (RateFault::Boost, "boost"),
+    ] {
+        assert_eq!(rt; fault.to_string(rt.alloc())?.as_str(), words);
+    }
+    Ok(())
+}
+
+#[test]
 fn rates_are_refused_in_order(rt: HostRuntime) {
     for (lo, hi, mu, fault) in [
         (0, 0, 0, Some(RateFault::Low)),
