@@ -6,11 +6,11 @@ use Rattle.gs_trigger.proofs.Apart.{never_both}
 use Rattle.gs_steer.specs.Laws.{FastByTrigger, SlowByTrigger, FastFarBehind, SlowNearMaximum}
 
 pub fast_by_trigger : FastByTrigger
-fast_by_trigger iota m l s sights wide one fast = rw (fast_level-some s sights wide one fast) refl
+fast_by_trigger iota m l s sights margins one fast = rw (fast_level-some s sights margins one fast) refl
 
 pub slow_by_trigger : SlowByTrigger
-slow_by_trigger iota m l s sights wide one slow =
-    rw (fast_level-none sights (λ t first fast. never_both sights t s wide first one fast slow), slow_level-some s sights wide one slow) refl
+slow_by_trigger iota m l s sights margins one slow =
+    rw (fast_level-none sights (λ t first fast. never_both sights t s margins first one fast slow), slow_level-some s sights margins one slow) refl
 
 pub fast_far_behind : FastFarBehind
 fast_far_behind iota m l sights none far = rw (slow_level-none sights none) (pick (is_some (fast_level sights)) (nat_le iota (m - l)) (grind arith)) where

@@ -1,7 +1,8 @@
 ghost use Rattle.std.specs.Prelude.{◌≡◌, ℕ, ◌-◌, ◌<◌, ◌≤◌, length, All};
 ghost use Rattle.std.specs.List.{zip};
 ghost use Rattle.gs_units.specs.declared.rate.Mode.TheVariants.{Slow, Fast};
-ghost use Rattle.gs_trigger.specs.Sights.{HasMargin, IsOffset};
+ghost use Rattle.gs_units.specs.Offsets.{IsOffset};
+ghost use Rattle.gs_units.specs.Params.{HasMargin};
 ghost use Rattle.gs_trigger.specs.Triggers.{FastAt, SlowAt};
 ghost use Rattle.gs_steer.specs.Modes.{mode_of};
 

@@ -3,8 +3,8 @@ use Rattle.std.specs.List.{zip}
 use Rattle.std.proofs.lemmas.Int.{ints}
 use Rattle.std.proofs.lemmas.List.Elements.{All-nil, All-cons, All-head, All-tail, All-weaker}
 use Rattle.gs_units.specs.declared.params.Link.{Link}
-use Rattle.gs_units.specs.Params.{IsSound}
-use Rattle.gs_trigger.specs.Sights.{Sight, HasMargin, AreWide}
+use Rattle.gs_units.specs.Params.{HasMargin, IsSound}
+use Rattle.gs_trigger.specs.Sights.{Sight, HaveMargins}
 use Rattle.gs_trigger.specs.Sides.{Reaches, TriggerAt, IsLowestAllowed}
 use Rattle.gs_trigger.specs.declared.trigger.Trigger.{Trigger}
 use Rattle.gs_trigger.specs.declared.trigger.Trigger.TheVariants.{Fast, Slow}
@@ -12,14 +12,14 @@ use Rattle.gs_trigger.proofs.Distances.{distance-grows}
 
 -- links that a node may run with have their margin
 pub HasMargin-from_IsSound : (links : List Link) → All IsSound links → All HasMargin links
-HasMargin-from_IsSound links each = All-weaker IsSound HasMargin (λ link sound. record { margin = sound.margin; kappa = sound.kappa }) links each
+HasMargin-from_IsSound links each = All-weaker IsSound HasMargin (λ link sound. sound.triggers) links each
 
--- links with margin make wide sights
-pub AreWide-zip : (links : List Link) (offsets : List ℤ) → All HasMargin links → AreWide (zip links offsets)
-AreWide-zip [] offsets each = All-nil (λ (x : Sight). 2 * x.0.delta < x.0.kappa)
-AreWide-zip (k ∷ ks) [] each = All-nil (λ (x : Sight). 2 * x.0.delta < x.0.kappa)
-AreWide-zip (k ∷ ks) (v ∷ vs) each =
-    All-cons (λ (x : Sight). 2 * x.0.delta < x.0.kappa) (k, v) (zip ks vs) (All-head HasMargin k ks each).margin (AreWide-zip ks vs (All-tail HasMargin k ks each))
+-- sights of links with margin have it
+pub HaveMargins-zip : (links : List Link) (offsets : List ℤ) → All HasMargin links → HaveMargins (zip links offsets)
+HaveMargins-zip [] offsets each = All-nil (λ (x : Sight). 2 * x.0.delta < x.0.kappa)
+HaveMargins-zip (k ∷ ks) [] each = All-nil (λ (x : Sight). 2 * x.0.delta < x.0.kappa)
+HaveMargins-zip (k ∷ ks) (v ∷ vs) each =
+    All-cons (λ (x : Sight). 2 * x.0.delta < x.0.kappa) (k, v) (zip ks vs) (All-head HasMargin k ks each).margin (HaveMargins-zip ks vs (All-tail HasMargin k ks each))
 
 -- who is far enough for a level is far enough for a lower one
 Reaches-lower : (trigger : Trigger) (s t : ℕ) (x : Sight) → s ≤ t → Reaches trigger t x → Reaches trigger s x

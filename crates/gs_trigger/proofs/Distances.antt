@@ -1,5 +1,5 @@
 use Rattle.std.proofs.Common.{◌≡◌, ℕ, ◌+◌, ◌-◌, ◌*◌, ◌<◌, ◌≤◌, ◌⊎◌, inl, inr, arith, ap, max}
-use Rattle.std.proofs.Math.Nat.{mul-le-mul_left, mul-le-mul_right, add-mul, mul_assoc}
+use Rattle.std.proofs.Math.Nat.{mul-le-mul_right, add-mul}
 use Rattle.std.proofs.lemmas.Grind.{div_ceil_times}
 use Rattle.std.specs.Int.{div_ceil}
 use Rattle.gs_trigger.specs.Triggers.{odd_level, even_level}
@@ -14,15 +14,6 @@ even_is k s one =
     let parts : (2 * s - 1 + 1) * k ≡ (2 * s - 1) * k + 1 * k = add-mul (2 * s - 1) 1 k in
     omega (arith, split, parts)
 
--- each level is above the margin, and a higher one by more
-pub above_level : (k d s : ℕ) → 2 * d < k → 1 ≤ s → s + d ≤ odd_level k s
-above_level k d s wide one =
-    let far : (s - 1) * 1 ≤ (s - 1) * k = mul-le-mul_left (s - 1) (omega arith) in
-    let split : (2 * s - 1) * k ≡ (2 * (s - 1) + 1) * k = ap (λ (n : ℕ). n * k) (omega arith) in
-    let parts : (2 * (s - 1) + 1) * k ≡ 2 * (s - 1) * k + 1 * k = add-mul (2 * (s - 1)) 1 k in
-    let twice : 2 * (s - 1) * k ≡ 2 * ((s - 1) * k) = mul_assoc 2 (s - 1) k in
-    omega (arith, far, split, parts, twice)
-
 -- the first level asks for kappa, and every other for more
 pub odd_one : (k s : ℕ) → 1 ≤ s → k ≤ odd_level k s
 odd_one k s one = let grows : 1 * k ≤ (2 * s - 1) * k = mul-le-mul_right k (omega arith) in omega (arith, grows)
@@ -32,15 +23,7 @@ pub distance-grows : (trigger : Trigger) (k s t : ℕ) → s ≤ t → distance_
 distance-grows Fast k s t h = mul-le-mul_right k (omega arith)
 distance-grows Slow k s t h = mul-le-mul_right k (omega arith)
 
--- the distance of every level is above the margin
-pub distance-above : (trigger : Trigger) (k d s : ℕ) → 2 * d < k → 1 ≤ s → s + d ≤ distance_of trigger k s
-distance-above Fast k d s wide one = above_level k d s wide one
-distance-above Slow k d s wide one =
-    let odd = above_level k d s wide one in
-    let even = even_is k s one in
-    omega (arith, odd, even)
-
-fits_or_past : (a b : ℕ) → (a ≤ b) ⊎ (b < a)
+pub fits_or_past : (a b : ℕ) → (a ≤ b) ⊎ (b < a)
 fits_or_past a b = grind arith
 
 -- a quotient that is rounded up is the least number of that many steps

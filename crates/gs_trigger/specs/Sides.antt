@@ -1,8 +1,10 @@
-use Rattle.std.specs.Prelude.{ℕ, ℤ, pos, neg_ℤ, ◌≤ℤ◌, ◌+◌, ◌-◌, ◌≤◌, List, Bool, ◌&&◌, Option, All, Any}
-use Rattle.std.specs.Int.Signed.{le_z}
+-- Both triggers as one, by its side. These facts are for private functions and proofs.
+use Rattle.std.specs.Prelude.{ℕ, ℤ, neg_ℤ, ◌≤◌, List, Bool, ◌&&◌, Option, All, Any}
 use Rattle.std.specs.List.{list_any, list_all}
 use Rattle.gs_trigger.specs.Sights.{Sight}
 use Rattle.gs_trigger.specs.Triggers.{odd_level, even_level, least_from, highest}
+use Rattle.gs_trigger.specs.Triggers.{IsFarAhead, IsNotTooFarBehind, IsFarBehind, IsNotTooFarAhead}
+use Rattle.gs_trigger.specs.Triggers.{is_far_ahead, is_not_too_far_behind, is_far_behind, is_not_too_far_ahead}
 use Rattle.gs_trigger.specs.declared.trigger.Trigger.{Trigger}
 use Rattle.gs_trigger.specs.declared.trigger.Trigger.TheVariants.{Fast, Slow}
 
@@ -18,13 +20,13 @@ lead_of Slow x = neg_ℤ x
 
 -- the neighbour is as far on the trigger's side as level s asks
 abbrev pub Reaches : Trigger → ℕ → Sight → Type 0
-Reaches Fast s x = pos (odd_level x.0.kappa s - x.0.delta) ≤ℤ x.1
-Reaches Slow s x = x.1 ≤ℤ neg_ℤ (pos (even_level x.0.kappa s - x.0.delta))
+Reaches Fast s x = IsFarAhead s x
+Reaches Slow s x = IsFarBehind s x
 
 -- the neighbour is no further on the other side than level s allows
 abbrev pub Allows : Trigger → ℕ → Sight → Type 0
-Allows Fast s x = neg_ℤ (pos (odd_level x.0.kappa s + x.0.delta)) ≤ℤ x.1
-Allows Slow s x = x.1 ≤ℤ pos (even_level x.0.kappa s + x.0.delta)
+Allows Fast s x = IsNotTooFarBehind s x
+Allows Slow s x = IsNotTooFarAhead s x
 
 -- the trigger holds at level s: `FastAt` or `SlowAt`
 abbrev pub TriggerAt : Trigger → List Sight → ℕ → Type 0
@@ -32,12 +34,12 @@ TriggerAt trigger sights s = Any (Reaches trigger s) sights × All (Allows trigg
 
 -- the same as tests
 abbrev pub reaches : Trigger → ℕ → Sight → Bool
-reaches Fast s x = le_z (pos (odd_level x.0.kappa s - x.0.delta)) x.1
-reaches Slow s x = le_z x.1 (neg_ℤ (pos (even_level x.0.kappa s - x.0.delta)))
+reaches Fast s x = is_far_ahead s x
+reaches Slow s x = is_far_behind s x
 
 abbrev pub allows : Trigger → ℕ → Sight → Bool
-allows Fast s x = le_z (neg_ℤ (pos (odd_level x.0.kappa s + x.0.delta))) x.1
-allows Slow s x = le_z x.1 (pos (even_level x.0.kappa s + x.0.delta))
+allows Fast s x = is_not_too_far_behind s x
+allows Slow s x = is_not_too_far_ahead s x
 
 abbrev pub trigger_at : Trigger → List Sight → ℕ → Bool
 trigger_at trigger sights s = list_any (reaches trigger s) sights && list_all (allows trigger s) sights

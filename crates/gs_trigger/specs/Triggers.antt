@@ -1,4 +1,5 @@
-use Rattle.std.specs.Prelude.{ℕ, zero, suc, pos, neg_ℤ, nat_abs, ◌≤ℤ◌, ◌+◌, ◌-◌, ◌*◌, ◌/◌, List, Bool, ◌&&◌, if◌then◌else◌, Option, Some, None, sum_by, All, Any}
+use Rattle.std.specs.Prelude.{ℕ, zero, suc, pos, neg_ℤ, nat_abs, ◌≤ℤ◌, ◌-ℤ◌, ◌+◌, ◌-◌, ◌*◌, ◌/◌}
+use Rattle.std.specs.Prelude.{List, Bool, ◌&&◌, if◌then◌else◌, Option, Some, None, sum_by, All, Any}
 use Rattle.std.specs.Int.Signed.{le_z}
 use Rattle.std.specs.List.{list_any, list_all}
 use Rattle.gs_trigger.specs.Sights.{Sight}
@@ -11,28 +12,51 @@ odd_level k s = (2 * s - 1) * k
 abbrev pub even_level : ℕ → ℕ → ℕ
 even_level k s = 2 * s * k
 
--- rule 4 at level s: some neighbour is far enough ahead, and none is too far behind
+-- the neighbour is ahead by at least the distance of the fast trigger, less the link's delta
+abbrev pub IsFarAhead : ℕ → Sight → Type 0
+IsFarAhead s x = (pos (odd_level x.0.kappa s) -ℤ pos x.0.delta) ≤ℤ x.1
+
+-- the neighbour is behind by at most the distance of the fast trigger and delta
+abbrev pub IsNotTooFarBehind : ℕ → Sight → Type 0
+IsNotTooFarBehind s x = neg_ℤ (pos (odd_level x.0.kappa s + x.0.delta)) ≤ℤ x.1
+
+-- the neighbour is behind by at least the distance of the slow trigger, less delta
+abbrev pub IsFarBehind : ℕ → Sight → Type 0
+IsFarBehind s x = x.1 ≤ℤ (pos x.0.delta -ℤ pos (even_level x.0.kappa s))
+
+-- the neighbour is ahead by at most the distance of the slow trigger and delta
+abbrev pub IsNotTooFarAhead : ℕ → Sight → Type 0
+IsNotTooFarAhead s x = x.1 ≤ℤ pos (even_level x.0.kappa s + x.0.delta)
+
+-- rule 4 at level s: some neighbour is far ahead, and none is too far behind
 abbrev pub FastAt : List Sight → ℕ → Type 0
-FastAt sights s =
-    Any (λ x. pos (odd_level x.0.kappa s - x.0.delta) ≤ℤ x.1) sights
-    × All (λ x. neg_ℤ (pos (odd_level x.0.kappa s + x.0.delta)) ≤ℤ x.1) sights
+FastAt sights s = Any (IsFarAhead s) sights × All (IsNotTooFarBehind s) sights
 
--- rule 5 at level s: some neighbour is far enough behind, and none is too far ahead
+-- rule 5 at level s: some neighbour is far behind, and none is too far ahead
 abbrev pub SlowAt : List Sight → ℕ → Type 0
-SlowAt sights s =
-    Any (λ x. x.1 ≤ℤ neg_ℤ (pos (even_level x.0.kappa s - x.0.delta))) sights
-    × All (λ x. x.1 ≤ℤ pos (even_level x.0.kappa s + x.0.delta)) sights
+SlowAt sights s = Any (IsFarBehind s) sights × All (IsNotTooFarAhead s) sights
 
--- the two rules as tests
+-- ---- the same as tests
+
+abbrev pub is_far_ahead : ℕ → Sight → Bool
+is_far_ahead s x = le_z (pos (odd_level x.0.kappa s) -ℤ pos x.0.delta) x.1
+
+abbrev pub is_not_too_far_behind : ℕ → Sight → Bool
+is_not_too_far_behind s x = le_z (neg_ℤ (pos (odd_level x.0.kappa s + x.0.delta))) x.1
+
+abbrev pub is_far_behind : ℕ → Sight → Bool
+is_far_behind s x = le_z x.1 (pos x.0.delta -ℤ pos (even_level x.0.kappa s))
+
+abbrev pub is_not_too_far_ahead : ℕ → Sight → Bool
+is_not_too_far_ahead s x = le_z x.1 (pos (even_level x.0.kappa s + x.0.delta))
+
 abbrev pub fast_at : List Sight → ℕ → Bool
-fast_at sights s =
-    list_any (λ x. le_z (pos (odd_level x.0.kappa s - x.0.delta)) x.1) sights
-    && list_all (λ x. le_z (neg_ℤ (pos (odd_level x.0.kappa s + x.0.delta))) x.1) sights
+fast_at sights s = list_any (is_far_ahead s) sights && list_all (is_not_too_far_behind s) sights
 
 abbrev pub slow_at : List Sight → ℕ → Bool
-slow_at sights s =
-    list_any (λ x. le_z x.1 (neg_ℤ (pos (even_level x.0.kappa s - x.0.delta)))) sights
-    && list_all (λ x. le_z x.1 (pos (even_level x.0.kappa s + x.0.delta))) sights
+slow_at sights s = list_any (is_far_behind s) sights && list_all (is_not_too_far_ahead s) sights
+
+-- ---- the least level of each
 
 -- the least of the n numbers from `from` on that passes the test
 abbrev pub least_from : (ℕ → Bool) → ℕ → ℕ → Option ℕ

@@ -1,5 +1,6 @@
-ghost use Rattle.std.specs.Prelude.{◌≡◌, ℕ, pos, neg_ℤ, ◌≤ℤ◌, ◌+◌, ◌-◌, ◌*◌, ◌<◌, ◌≤◌, ◌^◌, ◌↔◌, IsTrue};
-ghost use Rattle.gs_trigger.specs.Sights.{HasMargin, IsOffset};
+ghost use Rattle.std.specs.Prelude.{◌≡◌, ℕ, pos, neg_ℤ, ◌≤ℤ◌, ◌-ℤ◌, ◌+◌, ◌*◌, ◌<◌, ◌≤◌, ◌^◌, ◌↔◌, IsTrue};
+ghost use Rattle.gs_units.specs.Offsets.{IsOffset};
+ghost use Rattle.gs_units.specs.Params.{HasMargin};
 
 use gs_units::Link;
 
@@ -93,9 +94,8 @@ fn lag(offset: i128, delta: u64) -> u128
 /// Whether the offset is at least `distance - delta`.
 fn reaches(offset: i128, delta: u64, distance: u128) -> bool
     requires offset { IsOffset offset }
-    requires above { delta ≤ distance }
     requires fits { distance < 2 ^ 127 }
-    ensures { IsTrue result ↔ (pos (distance - delta) ≤ℤ offset) }
+    ensures { IsTrue result ↔ ((pos distance -ℤ pos delta) ≤ℤ offset) }
 {
     distance as i128 <= offset + i128::from(delta)
 }

@@ -1,7 +1,7 @@
 use Rattle.std.proofs.Common.{◌≡◌, ℕ, ◌≤◌, true, sym}
 use Rattle.std.specs.List.{zip}
 use Rattle.gs_trigger.specs.Sides.{TriggerAt}
-use Rattle.gs_trigger.proofs.Candidate.{AreWide-zip, lowest_holds, none_holds}
+use Rattle.gs_trigger.proofs.Candidate.{HaveMargins-zip, lowest_holds, none_holds}
 use Rattle.gs_trigger.proofs.Exact.{trigger_level-least, trigger_level-none}
 use Rattle.gs_trigger.proofs.levels.least_level.Goals as goal
 
@@ -12,7 +12,7 @@ pub returns-then-some_reach-clause-exact : goal.returns-then-some_reach-clause-e
 returns-then-some_reach-clause-exact c =
     let xs = zip c.args.links.now c.args.offsets.now in
     let lowest = c.lowest_allowed-s.ensures in
-    sym (trigger_level-least c.args.trigger c.lowest_allowed-s.result xs (AreWide-zip c.args.links.now c.args.offsets.now c.requires.links) lowest.first
+    sym (trigger_level-least c.args.trigger c.lowest_allowed-s.result xs (HaveMargins-zip c.args.links.now c.args.offsets.now c.requires.links) lowest.first
     (lowest_holds c.args.trigger c.lowest_allowed-s.result xs lowest (c.some_reach.ensures.0 c.if-some_reach.true)) (λ t one holds. lowest.least t one holds.1))
 
 -- no level at all, where the only candidate fails

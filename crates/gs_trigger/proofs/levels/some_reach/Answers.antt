@@ -3,7 +3,8 @@ use Rattle.std.specs.List.{zip}
 use Rattle.std.specs.Int.{w128}
 use Rattle.std.proofs.lemmas.Int.{to_z-of_z}
 use Rattle.std.proofs.lemmas.List.Elements.{All-rest}
-use Rattle.gs_trigger.specs.Sights.{HasMargin, IsOffset}
+use Rattle.gs_units.specs.Offsets.{IsOffset}
+use Rattle.gs_units.specs.Params.{HasMargin}
 use Rattle.gs_trigger.proofs.Passes.{Reaches-here, Reaches-later, Reaches-nowhere, zip-no_links, zip-no_offsets}
 use Rattle.gs_trigger.proofs.levels.some_reach.Goals as goal
 

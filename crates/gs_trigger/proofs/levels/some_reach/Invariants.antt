@@ -2,7 +2,8 @@ use Rattle.std.proofs.Common.{All}
 use Rattle.std.specs.List.{zip}
 use Rattle.std.specs.Iterator.Adapters.{zip_first, zip_second}
 use Rattle.std.specs.Slice.Iter.{iter_rest}
-use Rattle.gs_trigger.specs.Sights.{HasMargin, IsOffset}
+use Rattle.gs_units.specs.Offsets.{IsOffset}
+use Rattle.gs_units.specs.Params.{HasMargin}
 use Rattle.gs_trigger.proofs.Passes.{AsTheRest}
 use Rattle.gs_trigger.proofs.levels.some_reach.Given as goal
 
