@@ -1,5 +1,7 @@
 use Rattle.std.specs.Prelude.{◌≡◌, ℕ, List, [], ◌∷◌, ◌++◌, take, Option, Some, None, option_map, if◌then◌else◌}
+use Rattle.std.specs.List.{count_by}
 use Rattle.std.specs.Str.{bytes_eq}
+use Rattle.gs_io.specs.Causes.{counted, is_to_fail}
 
 -- what is held, where it is told, has this at its end
 abbrev pub Appends : Option (List ℕ) → Option (List ℕ) → List ℕ → Type 0
@@ -14,12 +16,41 @@ abbrev pub first_named : List (List ℕ × List ℕ) → List ℕ → Option (Li
 first_named [] name = None
 first_named (file ∷ files) name = if bytes_eq file.0 name then Some file.1 else first_named files name
 
--- the names and the bytes of some files, and the names whose reads failed
+-- files in memory: names with bytes, the numbers of the reads that are to fail, how many there were, and the names of
+-- those that failed
 pub record Shelf : Type 0 where
   pub files : List (List ℕ × List ℕ)
+  pub fails : List ℕ
+  pub calls : ℕ
   pub failed : List (List ℕ)
 
--- what was written, and how often a write failed
+-- how often the reading of this name has failed
+abbrev pub failures : Shelf → List ℕ → ℕ
+failures shelf name = count_by (bytes_eq name) shelf.failed
+
+-- what the read of this number finds under this name
+abbrev pub found : Shelf → ℕ → List ℕ → Option (List ℕ)
+found shelf call name = if is_to_fail shelf.fails call then None else first_named shelf.files name
+
+-- after a read that did not fail
+abbrev pub after_read : Shelf → Shelf
+after_read shelf = record shelf { calls = counted shelf.calls }
+
+-- after a read of this name that failed
+abbrev pub after_failed_read : Shelf → List ℕ → Shelf
+after_failed_read shelf name = record shelf { calls = counted shelf.calls; failed = shelf.failed ++ name ∷ [] }
+
+-- a sink in memory: what it holds, the numbers of the writes that are to fail, how many there were, and how many failed
 pub record Written : Type 0 where
   pub bytes : List ℕ
+  pub fails : List ℕ
+  pub calls : ℕ
   pub faults : ℕ
+
+-- after a write that kept its piece
+abbrev pub after_write : Written → List ℕ → Written
+after_write sink piece = record sink { bytes = sink.bytes ++ piece; calls = counted sink.calls }
+
+-- after a write that failed, of which nothing is kept
+abbrev pub after_failed_write : Written → Written
+after_failed_write sink = record sink { calls = counted sink.calls; faults = counted sink.faults }

@@ -1,8 +1,7 @@
-ghost use Rattle.std.specs.Prelude.{◌≡◌, ℕ, ◌<◌, ◌≤◌, List, [], ◌∷◌, ◌++◌, length, map, Option, Some, None, IfSome, IsNone, IsSomeAnd, IfOk, OnOk, OnErr, string_bytes};
-ghost use Rattle.std.specs.List.{count_by};
-ghost use Rattle.std.specs.Str.{bytes_eq};
-ghost use Rattle.gs_io.specs.Causes.{Rose};
-ghost use Rattle.gs_io.specs.Held.{Shelf, first_named};
+ghost use Rattle.std.specs.Prelude.{◌≡◌, ◌≢◌, ℕ, ◌<◌, ◌≤◌, List, [], ◌∷◌, ◌++◌, length, map, string_bytes};
+ghost use Rattle.std.specs.Prelude.{Option, Some, None, IfSome, IsNone, IsSomeAnd, IfOk, OnOk, OnErr};
+ghost use Rattle.gs_io.specs.Causes.{Rose, counted};
+ghost use Rattle.gs_io.specs.Held.{Shelf, after_failed_read, after_read, failures, first_named, found};
 
 use std::alloc::{AllocError, Global};
 use std::fs;
@@ -37,7 +36,8 @@ pub trait Files {
     fn read(&mut self, alloc: Global, name: &str, most: u64) -> Result<Vec<u8>, FileStop>
         ensures bytes { IfOk result (λ bytes. IfSome (content self.old) (λ told. told name.now ≡ Some bytes.items)) }
         ensures at_most { IfOk result (λ bytes. length bytes.items ≤ most) }
-        ensures too_long { result ≡ Err FileStop.TooLong → IfSome (content self.old) (λ told. IsSomeAnd (told name.now) (λ bytes. most < length bytes)) }
+        ensures too_long { result ≡ Err FileStop.TooLong
+            → IfSome (content self.old) (λ told. IsSomeAnd (told name.now) (λ bytes. most < length bytes)) }
         ensures failed { result ≡ Err FileStop.Failed → Rose (faults self.old name.now) (faults self.new name.now) }
         ensures later { (other : List ℕ) → faults self.old other ≤ faults self.new other }
         ensures same { content self.new ≡ content self.old };
@@ -59,6 +59,8 @@ impl Model for MemFiles {
 
     ghost view = { λ shelf. record {
       files = map (λ file. (string_bytes file.0, file.1.items)) shelf.files.items;
+      fails = shelf.fails.items;
+      calls = shelf.calls;
       failed = map string_bytes shelf.failed.items;
     } };
 }
@@ -66,8 +68,12 @@ impl Model for MemFiles {
 impl MemFiles {
     /// Files by name. `fails` are the numbers of the reads that are to fail.
     pub fn new(alloc: Global, files: Vec<(String, Vec<u8>)>, fails: Vec<u64>) -> Self
-        ensures files { result.files ≡ map (λ file. (string_bytes file.0, file.1.items)) files.items }
-        ensures unfailed { result.failed ≡ [] }
+        ensures { result ≡ record {
+          files = map (λ file. (string_bytes file.0, file.1.items)) files.items;
+          fails = fails.items;
+          calls = 0;
+          failed = [];
+        } }
     {
         MemFiles {
             files,
@@ -79,7 +85,8 @@ impl MemFiles {
 
     // The file of this name, unless this call is to fail.
     fn found(&self, name: &str) -> Option<&[u8]>
-        ensures { IfSome result (λ bytes. first_named self.now.files name.now ≡ Some bytes.now) }
+        ensures some { IfSome result (λ bytes. found self.now self.now.calls name.now ≡ Some bytes.now) }
+        ensures none { IsNone result → found self.now self.now.calls name.now ≡ None }
     {
         if self.fails.contains(&self.calls) {
             return None;
@@ -91,9 +98,20 @@ impl MemFiles {
 impl Files for MemFiles {
     ghost content = { λ shelf. Some (first_named shelf.files) };
 
-    ghost faults = { λ shelf name. count_by (bytes_eq name) shelf.failed };
+    ghost faults = { failures };
 
-    fn read(&mut self, alloc: Global, name: &str, most: u64) -> Result<Vec<u8>, FileStop> {
+    fn read(&mut self, alloc: Global, name: &str, most: u64) -> Result<Vec<u8>, FileStop>
+        ensures gives { IfOk result (λ bytes. found self.old (counted self.old.calls) name.now ≡ Some bytes.items) }
+        ensures at_most { IfOk result (λ bytes. length bytes.items ≤ most) }
+        ensures longer { result ≡ Err FileStop.TooLong
+            → IsSomeAnd (found self.old (counted self.old.calls) name.now) (λ bytes. most < length bytes) }
+        ensures nothing { result ≡ Err FileStop.Failed → found self.old (counted self.old.calls) name.now ≡ None }
+        ensures recorded { result ≡ Err FileStop.Failed → self.new ≡ after_failed_read self.old name.now }
+        ensures unrecorded { result ≢ Err FileStop.Failed → self.new ≡ after_read self.old }
+        ensures failed { result ≡ Err FileStop.Failed → Rose (failures self.old name.now) (failures self.new name.now) }
+        ensures later { (other : List ℕ) → failures self.old other ≤ failures self.new other }
+        ensures alone { (other : List ℕ) → other ≢ name.now → failures self.new other ≡ failures self.old other }
+    {
         self.calls = self.calls.saturating_add(1);
         match self.found(name) {
             Some(bytes) => copy_of(alloc, bytes, most),
@@ -104,8 +122,10 @@ impl Files for MemFiles {
 
 // The bytes of the first file of this name.
 fn first_of<'a>(files: &'a [(String, Vec<u8>)], name: &str) -> Option<&'a [u8]>
-    ensures first { IfSome result (λ bytes. first_named (map (λ file. (string_bytes file.0, file.1.items)) files.now) name.now ≡ Some bytes.now) }
-    ensures no_file { IsNone result → first_named (map (λ file. (string_bytes file.0, file.1.items)) files.now) name.now ≡ None }
+    ensures first { IfSome result (λ bytes.
+        first_named (map (λ file. (string_bytes file.0, file.1.items)) files.now) name.now ≡ Some bytes.now) }
+    ensures no_file { IsNone result
+        → first_named (map (λ file. (string_bytes file.0, file.1.items)) files.now) name.now ≡ None }
 {
     for (held, bytes) in files {
         if held.as_str() == name {
@@ -130,7 +150,8 @@ fn copy_of(alloc: Global, bytes: &[u8], most: u64) -> Result<Vec<u8>, FileStop>
 
 // Records that the reading of this name failed.
 fn failure(alloc: Global, failed: &mut Vec<String>, name: &str) -> FileStop
-    ensures recorded { result ≡ FileStop.Failed → map string_bytes failed.new.items ≡ map string_bytes failed.old.items ++ name.now ∷ [] }
+    ensures recorded { result ≡ FileStop.Failed
+        → map string_bytes failed.new.items ≡ map string_bytes failed.old.items ++ name.now ∷ [] }
     ensures same { result ≡ FileStop.OutOfMemory → failed.new.items ≡ failed.old.items }
     ensures never_long { (result ≡ FileStop.TooLong) → ⊥ }
 {
@@ -158,7 +179,9 @@ pub struct OsFiles<R> {
 
 impl<R: Disk> OsFiles<R> {
     /// Files that this runtime opens.
-    pub fn new(disk: R) -> Self {
+    pub fn new(disk: R) -> Self
+        ensures { (name : List ℕ) → ⟦<OsFiles<R> as Files>⟧.faults result name ≡ 0 }
+    {
         OsFiles { disk, faults: 0 }
     }
 }

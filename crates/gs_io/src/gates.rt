@@ -10,7 +10,7 @@ pub trait Gate: Sync {
     /// A worker is done with a piece.
     fn leave(&self, piece: u32);
 
-    /// A timer has nothing to do for so many units.
+    /// A timer has nothing to do for so many units, each of a nanosecond.
     fn rest(&self, units: u64);
 }
 

@@ -1,5 +1,6 @@
-//! The outside, as traits that tell what they hold and count their faults: files, sinks and gates,
-//! each in memory for tests and over the real thing. See `docs/MODEL.md`, "The outside".
+//! The outside as traits: files and sinks, which tell what they hold and count their faults, each in
+//! memory for tests and over the real thing; and gates, at which a test can hold a run. See
+//! `docs/MODEL.md`, "The outside".
 #![tactic(auto)]
 
 pub use failed::Failed;

@@ -1,8 +1,9 @@
-ghost use Rattle.std.specs.Prelude.{◌≡◌, ◌==◌, ℕ, ◌<◌, ◌≤◌, List, [], ◌++◌, length, take, IfSome, Option, Some, None, OnOk, OnErr};
+ghost use Rattle.std.specs.Prelude.{◌≡◌, ◌==◌, ℕ, ◌<◌, ◌≤◌, List, [], ◌++◌, length, take, IsTrue};
+ghost use Rattle.std.specs.Prelude.{Option, Some, None, IfSome, IsErr, OnOk, OnErr};
 ghost use Rattle.std.specs.Io.BufRead.{take_through};
 ghost use Rattle.std.specs.List.{position};
-ghost use Rattle.gs_io.specs.Causes.{HasCause};
-ghost use Rattle.gs_io.specs.Held.{Appends, AppendsFront, Written};
+ghost use Rattle.gs_io.specs.Causes.{HasCause, counted, is_to_fail};
+ghost use Rattle.gs_io.specs.Held.{Appends, AppendsFront, Written, after_failed_write, after_write};
 
 use crate::Failed;
 use std::alloc::Global;
@@ -84,14 +85,18 @@ pub struct MemSink {
 impl Model for MemSink {
     ghost Value = { Written };
 
-    ghost view = { λ sink. record { bytes = sink.held.items; faults = sink.faults } };
+    ghost view = { λ sink. record {
+      bytes = sink.held.items;
+      fails = sink.fails.items;
+      calls = sink.calls;
+      faults = sink.faults;
+    } };
 }
 
 impl MemSink {
     /// A sink that holds nothing. `fails` are the numbers of the writes that are to fail.
     pub fn new(alloc: Global, fails: Vec<u64>) -> Self
-        ensures empty { result.bytes ≡ [] }
-        ensures unfailed { result.faults ≡ 0 }
+        ensures { result ≡ record { bytes = []; fails = fails.items; calls = 0; faults = 0 } }
     {
         MemSink {
             held: Vec::new(alloc),
@@ -114,7 +119,12 @@ impl Sink for MemSink {
 
     ghost faults = { λ sink. sink.faults };
 
-    fn write(&mut self, piece: &[u8]) -> Result<(), Failed> {
+    fn write(&mut self, piece: &[u8]) -> Result<(), Failed>
+        ensures kept { OnOk result (self.new ≡ after_write self.old piece.now) }
+        ensures failed { OnErr result (self.new ≡ after_failed_write self.old) }
+        ensures named { IsTrue (is_to_fail self.old.fails (counted self.old.calls)) → IsErr result }
+        ensures cause { HasCause self.old.faults self.new.faults result }
+    {
         self.calls = self.calls.saturating_add(1);
         if self.fails.contains(&self.calls) || self.held.extend_from_slice(piece).is_err() {
             self.faults = self.faults.saturating_add(1);
@@ -133,14 +143,18 @@ pub struct StdSink<W> {
 
 impl StdSink<Stdout> {
     /// The standard output of the process.
-    pub fn output(stream: Stdout) -> Self {
+    pub fn output(stream: Stdout) -> Self
+        ensures { ⟦<StdSink<Stdout> as Sink>⟧.faults result ≡ 0 }
+    {
         StdSink { stream, faults: 0 }
     }
 }
 
 impl StdSink<Stderr> {
     /// The standard error of the process.
-    pub fn error(stream: Stderr) -> Self {
+    pub fn error(stream: Stderr) -> Self
+        ensures { ⟦<StdSink<Stderr> as Sink>⟧.faults result ≡ 0 }
+    {
         StdSink { stream, faults: 0 }
     }
 }
