@@ -61,9 +61,6 @@ rows_more l source table sums is small hs s rows =
       ];
     }
 
-pub no_rows : (l : Lengths) → AreRows l 0 []
-no_rows l = record { count = omega arith; least = λ v w hv hw. absurd (omega (arith, hv)) }
-
 -- the steps that the search takes
 pub weighted_steps : (l : Lengths) (all : List (List Step)) → all ≡ map (λ v. steps_over (length_between l v) (neighbours_of l.graph v)) (range_with_len 0 l.graph.nodes)
     → AreSteps l.graph.nodes (adjacent l.graph) (length_between l) all

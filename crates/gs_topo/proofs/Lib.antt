@@ -11,3 +11,4 @@ pub mod Ascending
 pub mod Sound
 pub mod Nearer
 pub mod LeastSums
+pub mod Numbering

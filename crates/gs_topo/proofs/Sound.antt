@@ -1,4 +1,4 @@
-use Rattle.std.proofs.Common.{◌≡◌, ◌≢◌, ℕ, ◌+◌, ◌*◌, ◌<◌, ◌≤◌, ◌&&◌, ◌==◌, nat_lt, not, inl, inr, arith, ap, sym, refl, ◌∙◌, List, [], ◌∷◌, ◌++◌, length, map, filter, cond, if◌then◌else◌, Bool, true, false, IsTrue, All, AllPairs, get_or, ltb, slice_index, Option, Some, None, eqb, option_map}
+use Rattle.std.proofs.Common.{◌≡◌, ◌≢◌, ℕ, ◌+◌, ◌*◌, ◌<◌, ◌≤◌, ◌⊎◌, ◌&&◌, ◌==◌, nat_lt, not, inl, inr, arith, ap, sym, refl, ◌∙◌, List, [], ◌∷◌, ◌++◌, length, map, filter, cond, if◌then◌else◌, Bool, true, false, IsTrue, All, AllPairs, get_or, ltb, slice_index, Option, Some, None, eqb, option_map}
 use Rattle.std.specs.Option.{option_or}
 use Rattle.std.specs.List.{range_with_len, IsDistinct}
 use Rattle.std.proofs.lemmas.Bool.{eq-eqb, ne_eqb, le-ltb, lt-ltb, false_from_ne_true, cond-true, cond-false}
@@ -16,11 +16,11 @@ use Rattle.gs_topo.specs.Faults.{edge_fault, edges_fault, split_fault, fault_of}
 use Rattle.gs_topo.specs.Graph.{Graph, IsBefore, joins, joined, adjacent, Adjacent, neighbours_of, pairs_below, graph_of}
 use Rattle.gs_topo.specs.Kept.{HasFlags, flag_at}
 use Rattle.gs_topo.specs.Search.{AreSteps, AreSums, AreInside, steps_over, far}
-use Rattle.gs_topo.specs.Walks.{IsWalk, IsGraph, one_each, reaches}
+use Rattle.gs_topo.specs.Walks.{IsWalk, IsGraph, IsSplitAt, one_each, reaches}
 use Rattle.gs_topo.proofs.Members.{Contains-map, member-from_list_any, range_below}
 use Rattle.gs_topo.proofs.Walks.{walk_append, turned, below_walks}
 use Rattle.gs_topo.proofs.Searching.{each_step}
-use Rattle.gs_topo.proofs.Distances.{IsConnected, IsLevelled, is_reached, is_not_reached, least_from_is, least_from_none, both_ways}
+use Rattle.gs_topo.proofs.Distances.{IsConnected, IsLevelled, is_reached, is_not_reached, levels_below, least_from_is, least_from_none, both_ways}
 use Rattle.gs_topo.proofs.Ascending.{Ascends-filter, all_pairs, pairs_ascend, pairs_within, joins-cases, adjacent_is_joined}
 
 -- What a list of edges without a fault makes.
@@ -110,6 +110,20 @@ pub split_at : (g : Graph) (sums : List ℕ) (v : ℕ) → AreSums g.nodes (adja
 split_at g sums v s some few hv far_off before =
     ap (option_map Split) (least_from_is (λ u. not (reaches g 0 u)) 0 g.nodes v (omega arith) (omega arith) (rw (not_reached g sums v s some few far_off) refl)
     (λ u low less. rw (reached g sums u s some (omega arith) (before u less)) refl))
+
+pub is_split : (g : Graph) (sums : List ℕ) (v : ℕ) → AreSums g.nodes (adjacent g) one_each 0 sums → 1 ≤ g.nodes → g.nodes ≤ 512 → v < g.nodes → slice_index sums v ≡ far
+    → ((u : ℕ) → u < v → slice_index sums u ≢ far) → IsSplitAt g v
+is_split g sums v s some few hv far_off before = record {
+  node = hv;
+  apart = λ xs walk.
+      let below = levels_below (Adjacent g) g.nodes (λ x. slice_index sums x) s.near 0 v xs (omega arith) walk s.start in
+      omega (arith, below, far_off, few);
+  first = λ u less.
+      let small = s.small u in
+      let known = before u less in
+      let walk = s.known u (omega (arith, less, hv)) (omega (arith, small, known)) in
+      (walk.0, walk.1);
+}
 
 pub no_split : (g : Graph) (sums : List ℕ) → AreSums g.nodes (adjacent g) one_each 0 sums → 1 ≤ g.nodes → ((u : ℕ) → u < g.nodes → slice_index sums u ≢ far) → split_fault g ≡ None
 no_split g sums s some all =
@@ -210,6 +224,29 @@ split_found n given sums v s inside far_off before =
     let g = graph_of n given in
     let hv : v < n = rw s.found.count at inside in
     fault_is n given s.some s.few s.many ∙ rw s.sound (split_at g sums v s.found s.some s.few hv far_off before)
+
+pub split_is : (n : ℕ) (given : List (ℕ × ℕ)) (sums : List ℕ) (v : ℕ) → IsSearched n given sums → v < length sums → slice_index sums v ≡ far → ((u : ℕ) → u < v → slice_index sums u ≢ far)
+    → IsSplitAt (graph_of n given) v
+split_is n given sums v s inside far_off before = is_split (graph_of n given) sums v s.found s.some s.few (rw s.found.count at inside) far_off before
+
+-- no edge splits a graph
+no_edge_splits : (x y z : Bool) (i v : ℕ) → (if x then Some (Node i) else if y then Some (Loop i) else if z then Some (Double i) else None) ≡ Some (Split v) → ⊥
+no_edge_splits true y z i v h = cc
+no_edge_splits false true z i v h = cc
+no_edge_splits false false true i v h = cc
+no_edge_splits false false false i v h = cc
+
+some_of : {X : Type 0} (x y : Option X) (z : X) → option_or x y ≡ Some z → (x ≡ Some z) ⊎ (y ≡ Some z)
+some_of None y z h = inr h
+some_of (Some x) y z h = inl h
+
+pub no_edges_split : (n : ℕ) (before : List (ℕ × ℕ)) (i : ℕ) (es : List (ℕ × ℕ)) (v : ℕ) → edges_fault n before i es ≡ Some (Split v) → ⊥
+unfolding edges_fault
+no_edges_split n before i [] v h = cc
+no_edges_split n before i (e ∷ es) v h = elim (some_of (edge_fault n before i e) (edges_fault n (before ++ e ∷ []) (i + 1) es) (Split v) h) [
+  | inl here ↦ no_edge_splits (not (nat_lt e.0 n && nat_lt e.1 n)) (e.0 == e.1) (joined before e.0 e.1) i v here
+  | inr later ↦ no_edges_split n (before ++ e ∷ []) (i + 1) es v later
+]
 
 pub none_found : (n : ℕ) (given : List (ℕ × ℕ)) (sums : List ℕ) → IsSearched n given sums → ((u : ℕ) → u < length sums → slice_index sums u ≢ far) → (fault_of n given ≡ None) × IsGraph (graph_of n given)
 none_found n given sums s all =

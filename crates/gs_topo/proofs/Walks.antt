@@ -23,11 +23,6 @@ turned adj n k both same v w (x ∷ xs) hv walk =
     let s = same x v in
     (rest.0 ++ v ∷ [], walk_append adj n w x v rest.0 (v ∷ []) rest.1 step, omega (arith, sum, rest.2, s))
 
--- the last node of a walk is one of the n
-pub walk_ends : (adj : ℕ → ℕ → Type 0) (n v w : ℕ) (xs : List ℕ) → v < n → IsWalk adj n v xs w → w < n
-walk_ends adj n v w [] hv walk = let P : ℕ → Type 0 = λ i. i < n in subst P walk hv
-walk_ends adj n v w (x ∷ xs) hv walk = walk_ends adj n x w xs walk.1 walk.2
-
 -- sums that fall along no step by more than its length are below the sum of each walk
 pub below_walks : (adj : ℕ → ℕ → Type 0) (n : ℕ) (k : ℕ → ℕ → ℕ) (d : ℕ → ℕ) → ((u x : ℕ) → u < n → x < n → adj u x → d x ≤ d u + k u x)
     → (v w : ℕ) (xs : List ℕ) → v < n → IsWalk adj n v xs w → d w ≤ d v + length_of k v xs

@@ -1,4 +1,5 @@
-use Rattle.std.specs.Prelude.{◌≡◌, ℕ, ◌+◌, ◌-◌, ◌<◌, ◌⊎◌, ◌&&◌, ◌||◌, ◌==◌, Bool, IsTrue, List, Option, filter, map, position}
+use Rattle.std.specs.Prelude.{◌≡◌, ℕ, ◌+◌, ◌-◌, ◌<◌, ◌⊎◌, ◌&&◌, ◌||◌, ◌==◌, Bool, IsTrue}
+use Rattle.std.specs.Prelude.{List, Option, filter, map, position}
 use Rattle.std.specs.List.{flat_map, list_any, range_with_len}
 
 -- an undirected graph: the nodes below a number, and the edges as pairs of nodes

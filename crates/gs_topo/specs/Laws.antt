@@ -11,13 +11,15 @@ pub record AreLeastSums (n : ℕ) (adj : ℕ → ℕ → Bool) (k weight : ℕ �
 
 -- least sums over walks are weights
 abbrev pub LeastSumsWeigh : Type 0
-LeastSumsWeigh = (n : ℕ) (adj : ℕ → ℕ → Bool) (k weight : ℕ → ℕ → ℕ) → AreLeastSums n adj k weight → Weighs n (λ a b. IsTrue (adj a b)) k weight
+LeastSumsWeigh = (n : ℕ) (adj : ℕ → ℕ → Bool) (k weight : ℕ → ℕ → ℕ) → AreLeastSums n adj k weight
+    → Weighs n (λ a b. IsTrue (adj a b)) k weight
 
 -- the distances of a topology are the same both ways, and no detour is shorter
 pub record AreMetric (g : Graph) : Type 0 where
   pub itself : (v : ℕ) → v < g.nodes → distance_of g v v ≡ 0
   pub same : (v w : ℕ) → v < g.nodes → w < g.nodes → distance_of g v w ≡ distance_of g w v
-  pub triangle : (v x w : ℕ) → v < g.nodes → x < g.nodes → w < g.nodes → distance_of g v w ≤ distance_of g v x + distance_of g x w
+  pub triangle : (v x w : ℕ) → v < g.nodes → x < g.nodes → w < g.nodes
+      → distance_of g v w ≤ distance_of g v x + distance_of g x w
   pub small : (v w : ℕ) → v < g.nodes → w < g.nodes → distance_of g v w < g.nodes
 
 abbrev pub DistancesAreMetric : Type 0

@@ -6,3 +6,4 @@ pub mod Laws
 pub mod Kept
 pub mod Search
 pub mod Weighted
+pub mod Words

@@ -1,4 +1,5 @@
-use Rattle.std.specs.Prelude.{◌≡◌, ℕ, ◌+◌, ◌<◌, ◌≤◌, ◌^◌, nat_lt, Bool, IsTrue, if◌then◌else◌, List, [], ◌∷◌, ◌++◌, All, filter, fold, length, map, slice_index, slice_index_or, slice_set}
+use Rattle.std.specs.Prelude.{◌≡◌, ℕ, ◌+◌, ◌<◌, ◌≤◌, ◌^◌, nat_lt, Bool, IsTrue, if◌then◌else◌, All, fold}
+use Rattle.std.specs.Prelude.{List, [], ◌∷◌, ◌++◌, filter, length, map, slice_index, slice_index_or, slice_set}
 use Rattle.std.specs.List.{range_with_len}
 use Rattle.gs_topo.specs.declared.steps.Step.{Step}
 use Rattle.gs_topo.specs.Walks.{IsWalk, length_of}
@@ -39,12 +40,14 @@ pub record AreSums (n : ℕ) (adj : ℕ → ℕ → Bool) (k : ℕ → ℕ → �
   pub count : length sums ≡ n
   pub start : slice_index sums source ≡ 0
   pub small : (w : ℕ) → slice_index sums w ≤ far
-  pub known : (w : ℕ) → w < n → slice_index sums w < far → (xs : List ℕ) × IsWalk (λ a b. IsTrue (adj a b)) n source xs w × (length_of k source xs ≡ slice_index sums w)
+  pub known : (w : ℕ) → w < n → slice_index sums w < far
+      → (xs : List ℕ) × IsWalk (λ a b. IsTrue (adj a b)) n source xs w × (length_of k source xs ≡ slice_index sums w)
   pub near : (u x : ℕ) → u < n → x < n → IsTrue (adj u x) → slice_index sums x ≤ slice_index sums u + k u x
 
 -- the same for whatever steps these are
 abbrev pub Searched : List (List Step) → ℕ → List ℕ → Type 0
-Searched all source sums = (adj : ℕ → ℕ → Bool) (k : ℕ → ℕ → ℕ) → AreSteps (length all) adj k all → AreSums (length all) adj k source sums
+Searched all source sums = (adj : ℕ → ℕ → Bool) (k : ℕ → ℕ → ℕ) → AreSteps (length all) adj k all
+    → AreSums (length all) adj k source sums
 
 -- each step leads to one of n nodes
 abbrev pub AreInside : ℕ → List Step → Type 0

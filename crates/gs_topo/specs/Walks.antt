@@ -1,4 +1,5 @@
-use Rattle.std.specs.Prelude.{◌≡◌, ℕ, zero, suc, ◌+◌, ◌<◌, ◌≤◌, ◌&&◌, ◌==◌, max, Bool, if◌then◌else◌, List, [], ◌∷◌, All, AllPairs, Option, Some, None, fold, is_some, length, map, unwrap_or}
+use Rattle.std.specs.Prelude.{◌≡◌, ℕ, zero, suc, ◌+◌, ◌<◌, ◌≤◌, ◌&&◌, ◌==◌, max, Bool, if◌then◌else◌}
+use Rattle.std.specs.Prelude.{List, [], ◌∷◌, All, AllPairs, fold, length, map, Option, Some, None, is_some, unwrap_or}
 use Rattle.std.specs.List.{flat_map, list_any, range_with_len}
 use Rattle.gs_topo.specs.Graph.{Graph, adjacent, Adjacent, IsBefore}
 
@@ -37,9 +38,15 @@ least_from test from (suc n) = if test from then Some from else least_from test 
 unfoldable pub distance_of : Graph → ℕ → ℕ → ℕ
 distance_of g v w = unwrap_or (least_from (λ d. has_walk g d v w) 0 g.nodes) g.nodes
 
--- some walk leads from v to w
+-- some walk of fewer steps than there are nodes leads from v to w
 unfoldable pub reaches : Graph → ℕ → ℕ → Bool
 reaches g v w = is_some (least_from (λ d. has_walk g d v w) 0 g.nodes)
+
+-- walks lead from node 0 to each node below v, and none to v
+pub record IsSplitAt (g : Graph) (v : ℕ) : Type 0 where
+  pub node : v < g.nodes
+  pub apart : (xs : List ℕ) → IsWalk (Adjacent g) g.nodes 0 xs v → ⊥
+  pub first : (u : ℕ) → u < v → (xs : List ℕ) × IsWalk (Adjacent g) g.nodes 0 xs u
 
 -- the distances of all pairs of nodes, row by row
 abbrev pub distances_of : Graph → List ℕ

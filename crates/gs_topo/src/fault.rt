@@ -2,6 +2,8 @@ ghost use Rattle.std.specs.Prelude.{◌≡◌};
 ghost use Rattle.gs_topo.specs.declared.fault.TopoFault.TheVariants.{OutOfMemory};
 
 use std::alloc::AllocError;
+use std::error::Error;
+use std::fmt;
 
 /// The first thing that is wrong with a graph. Edges are counted from 0, in the order given.
 #[derive(Clone, Copy, Debug, PartialEq, Eq)]
@@ -21,6 +23,27 @@ pub enum TopoFault {
     /// Memory was refused.
     OutOfMemory,
 }
+
+impl fmt::Display for TopoFault {
+    ghost use Rattle.std.specs.Prelude.{Some};
+    ghost use Rattle.gs_topo.specs.Words.{why_of};
+
+    ghost output = { λ f. Some (why_of f) };
+
+    fn fmt<W: fmt::Write>(&self, f: &mut fmt::Formatter<W>) -> fmt::Result {
+        match self {
+            TopoFault::Count => f.write_str("count"),
+            TopoFault::Edges => f.write_str("edges"),
+            TopoFault::Node(i) => write!(f, "node {i}"),
+            TopoFault::Loop(i) => write!(f, "loop {i}"),
+            TopoFault::Double(i) => write!(f, "double {i}"),
+            TopoFault::Split(v) => write!(f, "split {v}"),
+            TopoFault::OutOfMemory => f.write_str(""),
+        }
+    }
+}
+
+impl Error for TopoFault {}
 
 impl From<AllocError> for TopoFault {
     ghost from_gives = { λ _ e. e ≡ OutOfMemory };

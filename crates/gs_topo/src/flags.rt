@@ -1,4 +1,5 @@
-ghost use Rattle.std.specs.Prelude.{◌≡◌, ◌≢◌, ◌*◌, ◌<◌, ◌≤◌, ◌||◌, ℕ, Bool, List, IfErr, IfNone, IfOk, None, Some, [], length, true, vec_len};
+ghost use Rattle.std.specs.Prelude.{◌≡◌, ◌≢◌, ◌*◌, ◌<◌, ◌≤◌, ◌||◌, ℕ, Bool, true, List, [], length, vec_len};
+ghost use Rattle.std.specs.Prelude.{IfErr, IfNone, IfOk, None, Some};
 ghost use Rattle.gs_topo.specs.Faults.{edge_fault, edges_fault};
 ghost use Rattle.gs_topo.specs.Graph.{joined, joins};
 ghost use Rattle.gs_topo.specs.Kept.{HasFlags, flag_at};

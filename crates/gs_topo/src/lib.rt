@@ -8,10 +8,10 @@ pub use topology::{MAX_EDGES, MAX_NODES, Topology};
 pub use weights::Weights;
 
 mod build;
+mod distance_table;
 mod fault;
 mod flags;
 mod laws;
-mod levels;
 mod lists;
 mod search;
 mod steps;

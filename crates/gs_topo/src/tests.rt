@@ -36,6 +36,22 @@ fn faults_come_in_order(rt: HostRuntime) -> Result<(), AllocError> {
 }
 
 #[test]
+fn each_fault_has_its_words(rt: HostRuntime) -> Result<(), AllocError> {
+    for (fault, words) in [
+        (TopoFault::Count, "count"),
+        (TopoFault::Edges, "edges"),
+        (TopoFault::Node(0), "node 0"),
+        (TopoFault::Loop(4095), "loop 4095"),
+        (TopoFault::Double(4_294_967_295), "double 4294967295"),
+        (TopoFault::Split(511), "split 511"),
+        (TopoFault::OutOfMemory, ""),
+    ] {
+        assert_eq!(rt; fault.to_string(rt.alloc())?.as_str(), words);
+    }
+    Ok(())
+}
+
+#[test]
 fn a_grid_of_two_rows(rt: HostRuntime) {
     let edges = [(4, 5), (1, 0), (1, 2), (3, 0), (3, 4), (4, 1), (2, 5)];
     let grid = match Topology::new(rt.alloc(), 6, &edges) {

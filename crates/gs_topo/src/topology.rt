@@ -1,12 +1,13 @@
-ghost use Rattle.std.specs.Prelude.{◌≡◌, ◌≢◌, ◌+◌, ◌<◌, ◌≤◌, ◌↔◌, ℕ, IfErr, IfOk, IsTrue, None, Option, Some, length, position};
+ghost use Rattle.std.specs.Prelude.{◌≡◌, ◌≢◌, ◌+◌, ◌<◌, ◌≤◌, ℕ, IfErr, IfOk, None, Option, Some};
+ghost use Rattle.std.specs.Prelude.{All, AllPairs, length, position};
 ghost use Rattle.gs_topo.specs.Faults.{fault_of};
-ghost use Rattle.gs_topo.specs.Graph.{Graph, Adjacent, adjacent, graph_of, joins, neighbours_of, number_of};
-ghost use Rattle.gs_topo.specs.Walks.{IsCloser, IsGraph, IsLeast, diameter_of, distance_of, one_each};
+ghost use Rattle.gs_topo.specs.Graph.{Graph, IsBefore, Adjacent, adjacent, graph_of, joins, neighbours_of, number_of};
+ghost use Rattle.gs_topo.specs.Walks.{IsCloser, IsGraph, IsLeast, IsSplitAt, diameter_of, distance_of, one_each};
 
 use crate::build::{edge_list, neighbour_lists, unit_steps};
+use crate::distance_table::{greatest, table_of};
 use crate::fault::TopoFault;
 use crate::flags::flags_of;
-use crate::levels::{greatest, table_of};
 use crate::lists::Nodes;
 use crate::search::{first_far, sums_from};
 use std::alloc::Global;
@@ -40,7 +41,9 @@ impl Model for Topology {
 
     ghost view = { λ a. record { nodes = a.nodes; edges = a.edges.items } };
 
-    ghost invariant = { λ a. AreKept (record { nodes = a.nodes; edges = a.edges.items }) a.lists.items a.table.items a.diameter };
+    ghost invariant = { λ a. AreKept
+        (record { nodes = a.nodes; edges = a.edges.items })
+        a.lists.items a.table.items a.diameter };
 }
 
 impl Topology {
@@ -51,6 +54,7 @@ impl Topology {
         ensures ok { IfOk result (λ topology. topology ≡ graph_of n edges.now) }
         ensures sound { IfOk result (λ topology. fault_of n edges.now ≡ None) }
         ensures err { IfErr result (λ e. e ≢ TopoFault.OutOfMemory → fault_of n edges.now ≡ Some e) }
+        ensures split { (v : ℕ) → result ≡ Err (TopoFault.Split v) → IsSplitAt (graph_of n edges.now) v }
         ensures graph { IfOk result IsGraph }
     {
         if n == 0 || n > MAX_NODES {
@@ -106,6 +110,7 @@ impl Topology {
     pub fn distance(&self, v: u32, w: u32) -> u32
         requires { (v < self.now.nodes) × (w < self.now.nodes) }
         ensures value { result ≡ distance_of self.now v w }
+        ensures graph { IsGraph self.now }
         ensures least { IsLeast (Adjacent self.now) self.now.nodes one_each v w result }
         ensures below { result < self.now.nodes }
     {
@@ -125,7 +130,6 @@ impl Topology {
         requires { (v < self.now.nodes) × (w < self.now.nodes) }
         ensures { result ≡ adjacent self.now v w }
     {
-        let _ = &self.nodes;
         self.distance(v, w) == 1
     }
 
@@ -142,7 +146,6 @@ impl Topology {
         requires other { v ≢ w }
         ensures { IsCloser self.now v w result }
     {
-        let _ = &self.nodes;
         let far = self.distance(v, w);
         for x in self.neighbours(v) {
             if self.distance(*x, w) + 1 == far {
@@ -153,22 +156,15 @@ impl Topology {
     }
 }
 
-/// Whether the pair is `v` and `w`, either way round.
-fn is_between(edge: (u32, u32), v: u32, w: u32) -> bool
-    ensures { result ≡ joins edge v w }
-{
-    (edge.0 == v && edge.1 == w) || (edge.0 == w && edge.1 == v)
-}
-
 /// The place of the pair of `v` and `w`, either way round, among edges in ascending order.
 fn edge_number(edges: &[(u32, u32)], v: u32, w: u32) -> Option<u32>
-    requires { length edges.now ≤ 4096 }
+    requires few { length edges.now ≤ 4096 }
+    requires upright { All (λ e. e.0 < e.1) edges.now }
+    requires ascending { AllPairs IsBefore edges.now }
     ensures { result ≡ position (λ e. joins e v w) edges.now }
 {
-    for i in 0..edges.len() {
-        if is_between(edges[i], v, w) {
-            return Some(i as u32);
-        }
+    match edges.binary_search(&(v.min(w), v.max(w))) {
+        Ok(number) => Some(number as u32),
+        Err(_) => None,
     }
-    None
 }

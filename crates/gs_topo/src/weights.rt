@@ -17,6 +17,7 @@ use std::marker::Model;
 #[derive(Drop)]
 pub struct Weights {
     nodes: u32,
+    // The edges and their lengths are kept for contracts, which see them: no call reads them.
     edges: Vec<(u32, u32)>,
     lengths: Vec<u64>,
     /// The weight of v and w at place v * nodes + w.
@@ -30,7 +31,10 @@ impl Model for Weights {
 
     ghost use Rattle.gs_topo.specs.Weighted.{AreWeights};
 
-    ghost view = { λ a. record { graph = record { nodes = a.nodes; edges = a.edges.items }; lengths = a.lengths.items } };
+    ghost view = { λ a. record {
+      graph = record { nodes = a.nodes; edges = a.edges.items };
+      lengths = a.lengths.items;
+    } };
 
     ghost invariant = { λ a. AreWeights
         (record { graph = record { nodes = a.nodes; edges = a.edges.items }; lengths = a.lengths.items })

@@ -1,10 +1,15 @@
-use Rattle.std.proofs.Common.{arith, ◌∙◌, sym}
-use Rattle.gs_topo.specs.Graph.{joins}
-use Rattle.gs_topo.proofs.Nearer.{position_at, position_nowhere}
+use Rattle.std.proofs.Common.{Ok, Err}
+use Rattle.gs_topo.proofs.Numbering.{IsLookedUp, number_is}
 use Rattle.gs_topo.proofs.topology.edge_number.Goals as goal
 
-pub returns : goal.returns
-returns c = sym (position_nowhere (λ e. joins e c.args.v c.args.w) c.args.edges.now (0, 0) (λ k hk. c.loop-i.invariant k (omega (arith, hk, c.loop-i-test.false))))
+pub returns-in-Ok : goal.returns-in-Ok
+returns-in-Ok c =
+    let ends : IsLookedUp c.args.edges.now c.args.v c.args.w (c.min.result, c.max.result) =
+    record { upright = c.requires.upright; ascending = c.requires.ascending; lower = c.min.ensures; upper = c.max.ensures } in
+    number_is c.args.edges.now c.args.v c.args.w (c.min.result, c.max.result) (Ok c.in-Ok.number) ends c.in-Ok.ensures.bound c.in-Ok.ensures.position
 
-pub returns-then-is_between : goal.returns-then-is_between
-returns-then-is_between c = sym (position_at (λ e. joins e c.args.v c.args.w) c.args.edges.now c.loop-i.i (0, 0) c.loop-i-test.true c.loop-i.invariant (sym c.is_between.ensures ∙ c.if-is_between.true))
+pub returns-in-Err : goal.returns-in-Err
+returns-in-Err c =
+    let ends : IsLookedUp c.args.edges.now c.args.v c.args.w (c.min.result, c.max.result) =
+    record { upright = c.requires.upright; ascending = c.requires.ascending; lower = c.min.ensures; upper = c.max.ensures } in
+    number_is c.args.edges.now c.args.v c.args.w (c.min.result, c.max.result) (Err c.in-Err.field-0) ends c.in-Err.ensures.bound c.in-Err.ensures.position

@@ -1,6 +1,5 @@
 use Rattle.std.proofs.Common.{arith, ◌≡◌, ◌+◌, ◌<◌, length, slice_index}
 use Rattle.gs_topo.specs.Graph.{neighbours_of}
-use Rattle.gs_topo.specs.Kept.{AreKept}
 use Rattle.gs_topo.specs.Walks.{distance_of}
 use Rattle.gs_topo.proofs.Nearer.{found_closer, must_find, neighbour_inside}
 use Rattle.gs_topo.proofs.topology.Topology.closer.Goals as goal
@@ -22,8 +21,7 @@ returns-then-distance-far c =
 
 pub unreachable-requires : goal.unreachable-requires
 unreachable-requires c =
-    let kept : AreKept c.args.self.now c.self.inside.lists.items c.self.inside.table.items c.self.inside.diameter = rw c.self.view_is at c.self.invariant in
     let list = c.neighbours-x-items.ensures in
     let past = rw list at c.loop-x-test.false in
-    must_find c.args.self.now kept.graph c.args.v c.args.w c.requires.nodes.0 c.requires.nodes.1 c.requires.other
+    must_find c.args.self.now c.distance-far.ensures.graph c.args.v c.args.w c.requires.nodes.0 c.requires.nodes.1 c.requires.other
     (λ j hj. c.loop-x.invariant j (omega (arith, hj, past)))

@@ -27,6 +27,11 @@ value_is c =
 pub returns-clause-value : goal.returns-clause-value
 returns-clause-value c = value_is c
 
+pub returns-clause-graph : goal.returns-clause-graph
+returns-clause-graph c =
+    let kept : AreKept c.args.self.now c.self.inside.lists.items c.self.inside.table.items c.self.inside.diameter = rw c.self.view_is at c.self.invariant in
+    kept.graph
+
 pub returns-clause-least : goal.returns-clause-least
 returns-clause-least c =
     let kept : AreKept c.args.self.now c.self.inside.lists.items c.self.inside.table.items c.self.inside.diameter = rw c.self.view_is at c.self.invariant in

@@ -1,6 +1,6 @@
 use Rattle.std.proofs.Common.{append_assoc}
 use Rattle.std.proofs.lemmas.List.{take_more}
-use Rattle.gs_topo.proofs.levels.add_row.Goals as goal
+use Rattle.gs_topo.proofs.distance_table.add_row.Goals as goal
 
 pub loop-steps-preserved : goal.loop-steps-preserved
 loop-steps-preserved c = λ small.

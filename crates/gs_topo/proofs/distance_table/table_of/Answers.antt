@@ -3,7 +3,7 @@ use Rattle.std.specs.List.{range_with_len}
 use Rattle.gs_topo.specs.Walks.{distance_of}
 use Rattle.gs_topo.proofs.Building.{flat_range_more}
 use Rattle.gs_topo.proofs.Tables.{row_is}
-use Rattle.gs_topo.proofs.levels.table_of.Goals as goal
+use Rattle.gs_topo.proofs.distance_table.table_of.Goals as goal
 
 pub loop-source-preserved : goal.loop-source-preserved
 loop-source-preserved c = λ g steps is.

@@ -3,7 +3,7 @@ use Rattle.std.specs.List.{flat_map, range_with_len}
 use Rattle.gs_topo.specs.Graph.{Graph, adjacent}
 use Rattle.gs_topo.specs.Search.{AreSteps}
 use Rattle.gs_topo.specs.Walks.{IsGraph, distance_of, one_each}
-use Rattle.gs_topo.proofs.levels.table_of.Given as goal
+use Rattle.gs_topo.proofs.distance_table.table_of.Given as goal
 
 abbrev pub invariant-loop-source : goal.invariant-loop-source
 invariant-loop-source l = (g : Graph) → AreSteps g.nodes (adjacent g) one_each l.all → IsGraph g
