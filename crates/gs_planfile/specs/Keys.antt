@@ -1,7 +1,9 @@
 -- The keys of a plan file.
 use Rattle.std.specs.Prelude.{codes, ℕ, List, [], ◌∷◌}
 use Rattle.gs_planfile.specs.declared.key.Key.{Key}
-use Rattle.gs_planfile.specs.declared.key.Key.TheVariants.{Version, Cluster, Topology, Nodes, Rows, Cols, Edges, Lo, Hi, Mu, Tick, DelayMin, DelayMax, Every, Losses, Age, Kappa, Levels, Port, Spans}
+use Rattle.gs_planfile.specs.declared.key.Key.TheVariants.{Version, Cluster, Topology, Nodes, Rows, Cols, Edges}
+use Rattle.gs_planfile.specs.declared.key.Key.TheVariants.{Lo, Hi, Mu, Tick, DelayMin, DelayMax, Every, Losses, Age}
+use Rattle.gs_planfile.specs.declared.key.Key.TheVariants.{Kappa, Levels, Port, Spans}
 
 -- a key as a file spells it
 abbrev pub key_name : Key → List ℕ
@@ -29,5 +31,5 @@ key_name Spans = codes "spans"
 -- all keys
 abbrev pub every_key : List Key
 every_key =
-    Version ∷ Cluster ∷ Topology ∷ Nodes ∷ Rows ∷ Cols ∷ Edges ∷ Lo ∷ Hi ∷ Mu ∷ Tick ∷ DelayMin ∷ DelayMax ∷ Every ∷ Losses
-    ∷ Age ∷ Kappa ∷ Levels ∷ Port ∷ Spans ∷ []
+    Version ∷ Cluster ∷ Topology ∷ Nodes ∷ Rows ∷ Cols ∷ Edges ∷ Lo ∷ Hi ∷ Mu ∷ Tick ∷ DelayMin ∷ DelayMax ∷ Every
+    ∷ Losses ∷ Age ∷ Kappa ∷ Levels ∷ Port ∷ Spans ∷ []

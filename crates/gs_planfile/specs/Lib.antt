@@ -1,4 +1,5 @@
 pub mod Meaning
+pub mod Refusals
 pub mod Keys
 pub mod Values
 pub mod Lists
@@ -6,3 +7,4 @@ pub mod Shapes
 pub mod Extra
 pub mod Texts
 pub mod Writing
+pub mod Words

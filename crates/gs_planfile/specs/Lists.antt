@@ -1,5 +1,6 @@
 -- What the list of edges and the list of spans mean.
-use Rattle.std.specs.Prelude.{ℕ, List, [], ◌∷◌, ◌==◌, ◌&&◌, ◌||◌, Bool, true, false, Option, Some, None, Result, Ok, Err, length, if◌then◌else◌}
+use Rattle.std.specs.Prelude.{ℕ, List, [], ◌∷◌, ◌==◌, ◌&&◌, ◌||◌, Bool, true, false, length, if◌then◌else◌}
+use Rattle.std.specs.Prelude.{Option, Some, None, Result, Ok, Err}
 use Rattle.std.specs.List.{list_all}
 use Rattle.toml.specs.Data.{Data, Items, no_items, item, Members, at, integer, array}
 use Rattle.gs_planfile.specs.declared.key.Key.{Key}
@@ -62,7 +63,8 @@ each read [] = Ok []
 each read (d ∷ ds) = read d >>= (λ x. each read ds >>= (λ xs. Ok (x ∷ xs)))
 
 -- a list: the form of all its values comes before the range of any
-abbrev pub list_of : {A : Type 0} → Key → (Data → Bool) → (Data → Result A PlanFileFault) → List Data → Result (List A) PlanFileFault
+abbrev pub list_of : {A : Type 0} → Key → (Data → Bool) → (Data → Result A PlanFileFault) → List Data
+    → Result (List A) PlanFileFault
 list_of k has_form read ds = if list_all has_form ds then each read ds else Err (Kind k)
 
 -- what a value says as the list of edges, and as the list of spans

@@ -3,7 +3,8 @@ use Rattle.std.specs.Prelude.{ℕ, List, Option, Some, None, Result, Ok, Err, if
 use Rattle.std.specs.Str.{is_utf8}
 use Rattle.toml.specs.Data.{Members}
 use Rattle.toml.specs.Parse.{parse_document}
-use Rattle.gs_planfile.specs.declared.key.Key.TheVariants.{Cluster, Lo, Hi, Mu, Tick, DelayMin, DelayMax, Every, Losses, Age, Levels, Port}
+use Rattle.gs_planfile.specs.declared.key.Key.TheVariants.{Cluster, Lo, Hi, Mu, Tick, DelayMin, DelayMax}
+use Rattle.gs_planfile.specs.declared.key.Key.TheVariants.{Every, Losses, Age, Levels, Port}
 use Rattle.gs_planfile.specs.declared.key.PlanFileFault.{PlanFileFault}
 use Rattle.gs_planfile.specs.declared.key.PlanFileFault.TheVariants.{Utf8, Toml}
 use Rattle.gs_planfile.specs.declared.text.PlanText.{PlanText}

@@ -29,7 +29,8 @@ kappa_of k _ = Err (Kind k)
 
 -- a version: the integer 1 or 2
 abbrev pub version_of : Data → Result Version PlanFileFault
-version_of (integer (pos n)) = if n == 1 then Ok version.One else if n == 2 then Ok version.Two else Err (Range key.Version)
+version_of (integer (pos n)) =
+    if n == 1 then Ok version.One else if n == 2 then Ok version.Two else Err (Range key.Version)
 version_of (integer (negsuc n)) = Err (Range key.Version)
 version_of _ = Err (Kind key.Version)
 

@@ -1,5 +1,6 @@
--- The table that `migrate` prints, a key at a time. The functions that make it speak of it, and no public contract does.
-use Rattle.std.specs.Prelude.{◌<◌, ◌^◌, ◌==◌, codes, ℕ, List, pos, map, length, Option, Some, None, IfSome, if◌then◌else◌}
+-- The document that `migrate` writes, put together key by key.
+use Rattle.std.specs.Prelude.{◌<◌, ◌^◌, ◌==◌, codes, ℕ, List, pos, map, length, if◌then◌else◌}
+use Rattle.std.specs.Prelude.{Option, Some, None, IfSome}
 use Rattle.std.specs.List.{AllByRecursion}
 use Rattle.std.specs.Ordering.{nat_cmp, match_ordering}
 use Rattle.std.specs.Cmp.Lexicographic.{slice_cmp}
@@ -18,7 +19,8 @@ use Rattle.gs_planfile.specs.Texts.{KappaFits}
 unfoldable pub insert_member : List ℕ → Data → Members → Members
 insert_member name d no_members = member name d no_members
 insert_member name d (member other e ms) =
-    match_ordering (slice_cmp nat_cmp name other) (member name d (member other e ms)) (member other d ms) (member other e (insert_member name d ms))
+    match_ordering (slice_cmp nat_cmp name other)
+    (member name d (member other e ms)) (member other d ms) (member other e (insert_member name d ms))
 
 -- members with the value of a key set
 abbrev pub put : Key → Data → Members → Members
@@ -39,7 +41,8 @@ kappa_items (Some kappa) = item (integer (pos kappa)) no_items
 -- a span as an array of four or five integers
 abbrev pub span_data : EdgeSpan → Data
 span_data s =
-    array (item (integer (pos s.a)) (item (integer (pos s.b)) (item (integer (pos s.delay_min)) (item (integer (pos s.delay_max)) (kappa_items s.kappa)))))
+    array (item (integer (pos s.a)) (item (integer (pos s.b))
+    (item (integer (pos s.delay_min)) (item (integer (pos s.delay_max)) (kappa_items s.kappa)))))
 
 abbrev pub edges_data : List (ℕ × ℕ) → Data
 edges_data edges = array (items_of (map edge_data edges))
@@ -50,8 +53,10 @@ spans_data spans = array (items_of (map span_data spans))
 unfoldable pub put_shape : Shape → Members → Members
 put_shape (shape.Line n) ms = put_number key.Nodes n (put key.Topology (string (codes "line")) ms)
 put_shape (shape.Ring n) ms = put_number key.Nodes n (put key.Topology (string (codes "ring")) ms)
-put_shape (shape.Grid rows cols) ms = put_number key.Cols cols (put_number key.Rows rows (put key.Topology (string (codes "grid")) ms))
-put_shape (shape.Edges n edges) ms = put key.Edges (edges_data edges) (put_number key.Nodes n (put key.Topology (string (codes "edges")) ms))
+put_shape (shape.Grid rows cols) ms =
+    put_number key.Cols cols (put_number key.Rows rows (put key.Topology (string (codes "grid")) ms))
+put_shape (shape.Edges n edges) ms =
+    put key.Edges (edges_data edges) (put_number key.Nodes n (put key.Topology (string (codes "edges")) ms))
 
 abbrev pub put_rates : PlanText → Members → Members
 put_rates t ms = put_number key.Mu t.mu (put_number key.Hi t.hi (put_number key.Lo t.lo ms))
@@ -72,8 +77,9 @@ put_spans spans ms = if length spans == 0 then ms else put key.Spans (spans_data
 -- the members that a text is written as, in version 2
 abbrev pub written : PlanText → Members
 written t =
-    put_spans t.spans (put_number key.Port t.port (put_number key.Levels t.levels (put_kappa t.kappa (put_times t (put_rates t
-    (put_shape t.shape (put_number key.Cluster t.cluster (put_number key.Version 2 no_members))))))))
+    put_spans t.spans (put_number key.Port t.port (put_number key.Levels t.levels (put_kappa t.kappa
+    (put_times t (put_rates t (put_shape t.shape
+    (put_number key.Cluster t.cluster (put_number key.Version 2 no_members))))))))
 
 -- what the types of a text's numbers say
 abbrev pub EdgeFits : ℕ × ℕ → Type 0
@@ -92,7 +98,9 @@ abbrev pub RatesFit : PlanText → Type 0
 RatesFit t = (t.lo < 2 ^ 32) × (t.hi < 2 ^ 32) × (t.mu < 2 ^ 32)
 
 abbrev pub TimesFit : PlanText → Type 0
-TimesFit t = (t.tick < 2 ^ 32) × (t.delay_min < 2 ^ 32) × (t.delay_max < 2 ^ 32) × (t.every < 2 ^ 32) × (t.losses < 2 ^ 32) × (t.age < 2 ^ 32)
+TimesFit t =
+    (t.tick < 2 ^ 32) × (t.delay_min < 2 ^ 32) × (t.delay_max < 2 ^ 32)
+    × (t.every < 2 ^ 32) × (t.losses < 2 ^ 32) × (t.age < 2 ^ 32)
 
 pub record Fits (t : PlanText) : Type 0 where
   pub cluster : t.cluster < 2 ^ 32

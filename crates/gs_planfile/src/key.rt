@@ -4,6 +4,8 @@ ghost use Rattle.gs_planfile.specs.Extra.{is_allowed, may_stand};
 ghost use Rattle.gs_planfile.specs.Keys.{key_name};
 
 use crate::text::{Shape, Version};
+use std::error::Error;
+use std::fmt;
 
 /// The keys that a plan file may have at its top, in the order in which they are looked at.
 #[derive(Clone, Copy, Debug, PartialEq, Eq)]
@@ -34,7 +36,7 @@ pub enum Key {
     DelayMin,
     /// The greatest delay of a beacon, in quanta.
     DelayMax,
-    /// A node sends a beacon at each tick of this number.
+    /// A node sends a beacon at every `every`-th tick.
     Every,
     /// How many beacons in a row a directed edge may lose.
     Losses,
@@ -42,7 +44,7 @@ pub enum Key {
     Age,
     /// The skew that one level of the gradient allows at an edge, in clock units.
     Kappa,
-    /// How many levels of the gradient the player and the planner look at.
+    /// The last level that the planner and the player report; the first is 0.
     Levels,
     /// The first UDP port of the cluster.
     Port,
@@ -92,6 +94,27 @@ pub enum PlanFileFault {
     /// There was not memory enough to read the file.
     OutOfMemory,
 }
+
+impl fmt::Display for PlanFileFault {
+    ghost use Rattle.std.specs.Prelude.{Some};
+    ghost use Rattle.gs_planfile.specs.Words.{why_of};
+
+    ghost output = { λ f. Some (why_of f) };
+
+    fn fmt<W: fmt::Write>(&self, f: &mut fmt::Formatter<W>) -> fmt::Result {
+        match self {
+            PlanFileFault::Utf8 => f.write_str("utf8"),
+            PlanFileFault::Toml => f.write_str("toml"),
+            PlanFileFault::Missing(key) => write!(f, "missing {}", key.name()),
+            PlanFileFault::Kind(key) => write!(f, "kind {}", key.name()),
+            PlanFileFault::Range(key) => write!(f, "range {}", key.name()),
+            PlanFileFault::Extra => f.write_str("extra"),
+            PlanFileFault::OutOfMemory => f.write_str(""),
+        }
+    }
+}
+
+impl Error for PlanFileFault {}
 
 impl Key {
     /// The key as a file spells it.
@@ -145,7 +168,7 @@ impl Key {
 
 /// Whether a key of this name may stand in a file of this version and shape.
 #[tactic(auto, unfolding(crate::specs::Extra::is_allowed))]
-pub fn is_allowed(version: Version, shape: &Shape, name: &str) -> bool
+pub(crate) fn is_allowed(version: Version, shape: &Shape, name: &str) -> bool
     ensures { result ≡ is_allowed version shape.now name.now }
 {
     EVERY_KEY

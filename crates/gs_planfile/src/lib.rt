@@ -3,11 +3,14 @@
 #![tactic(auto)]
 
 pub use key::{Key, PlanFileFault};
+pub use laws::faults_are_at_keys;
 pub use read::read_plan;
 pub use text::{EdgeList, EdgeSpan, PlanText, Shape, Spans, Version, base};
 pub use write::migrate;
 
+mod copy;
 mod key;
+mod laws;
 mod lists;
 mod read;
 mod shape;

@@ -2,7 +2,8 @@ ghost use Rattle.std.specs.Prelude.{◌≡◌, ◌≢◌, ◌<◌, ◌^◌, All,
 ghost use Rattle.std.specs.List.{list_all};
 ghost use Rattle.toml.specs.Data.{at};
 ghost use Rattle.toml.specs.View.{table_view, view};
-ghost use Rattle.gs_planfile.specs.Lists.{each, edge_of, edges_at, edges_of, is_edge, is_integer, is_span, list_of, number_in, span_of, spans_at, spans_of};
+ghost use Rattle.gs_planfile.specs.Lists.{each, edge_of, edges_at, edges_of, is_edge, is_integer, is_span};
+ghost use Rattle.gs_planfile.specs.Lists.{list_of, number_in, span_of, spans_at, spans_of};
 ghost use Rattle.gs_planfile.specs.Texts.{KappaFits};
 ghost use Rattle.gs_planfile.specs.Values.{optional_kappa};
 
@@ -140,7 +141,8 @@ fn each_span(alloc: Global, items: &[Value]) -> Result<Vec<EdgeSpan>, PlanFileFa
 #[tactic(auto, using(crate::proofs::Views::tests))]
 fn edges_in(alloc: Global, items: &[Value]) -> Result<EdgeList, PlanFileFault>
     ensures ok { IfOk result (λ edges. list_of Key.Edges is_edge edge_of (map view items.now) ≡ Ok edges) }
-    ensures err { IfErr result (λ e. e ≢ PlanFileFault.OutOfMemory → list_of Key.Edges is_edge edge_of (map view items.now) ≡ Err e) }
+    ensures err { IfErr result (λ e. e ≢ PlanFileFault.OutOfMemory
+        → list_of Key.Edges is_edge edge_of (map view items.now) ≡ Err e) }
 {
     if !are_edges(items) {
         return Err(PlanFileFault::Kind(Key::Edges));
@@ -162,7 +164,8 @@ fn edges_of(alloc: Global, value: &Value) -> Result<EdgeList, PlanFileFault>
 #[tactic(auto, using(crate::proofs::Views::tests))]
 fn spans_in(alloc: Global, items: &[Value]) -> Result<Spans, PlanFileFault>
     ensures ok { IfOk result (λ spans. list_of Key.Spans is_span span_of (map view items.now) ≡ Ok spans) }
-    ensures err { IfErr result (λ e. e ≢ PlanFileFault.OutOfMemory → list_of Key.Spans is_span span_of (map view items.now) ≡ Err e) }
+    ensures err { IfErr result (λ e. e ≢ PlanFileFault.OutOfMemory
+        → list_of Key.Spans is_span span_of (map view items.now) ≡ Err e) }
     ensures fits { IfOk result (All KappaFits) }
 {
     if !are_spans(items) {
@@ -184,7 +187,7 @@ fn spans_of(alloc: Global, value: &Value) -> Result<Spans, PlanFileFault>
 }
 
 /// The edges, which are needed where the topology lists them.
-pub fn edges_at(alloc: Global, table: &Table) -> Result<EdgeList, PlanFileFault>
+pub(crate) fn edges_at(alloc: Global, table: &Table) -> Result<EdgeList, PlanFileFault>
     ensures ok { IfOk result (λ edges. edges_at (table_view table.now) ≡ Ok edges) }
     ensures err { IfErr result (λ e. e ≢ PlanFileFault.OutOfMemory → edges_at (table_view table.now) ≡ Err e) }
 {
@@ -195,7 +198,11 @@ pub fn edges_at(alloc: Global, table: &Table) -> Result<EdgeList, PlanFileFault>
 }
 
 /// The spans, at which version 1 does not look.
-pub fn spans_at(alloc: Global, version: Version, table: &Table) -> Result<Spans, PlanFileFault>
+pub(crate) fn spans_at(
+    alloc: Global,
+    version: Version,
+    table: &Table,
+) -> Result<Spans, PlanFileFault>
     ensures ok { IfOk result (λ spans. spans_at version (table_view table.now) ≡ Ok spans) }
     ensures err { IfErr result (λ e. e ≢ PlanFileFault.OutOfMemory → spans_at version (table_view table.now) ≡ Err e) }
     ensures fits { IfOk result (All KappaFits) }

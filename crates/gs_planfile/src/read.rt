@@ -79,7 +79,8 @@ fn plan_in(alloc: Global, table: &Table) -> Result<PlanText, PlanFileFault>
 fn plan_of_text(alloc: Global, text: &str) -> Result<PlanText, PlanFileFault>
     ensures ok { IfOk result (λ plan. plan_of_document (parse_document text.now) ≡ Ok plan) }
     ensures text { IfOk result IsText }
-    ensures err { IfErr result (λ e. e ≢ PlanFileFault.OutOfMemory → plan_of_document (parse_document text.now) ≡ Err e) }
+    ensures err { IfErr result (λ e. e ≢ PlanFileFault.OutOfMemory
+        → plan_of_document (parse_document text.now) ≡ Err e) }
     ensures never_utf8 { result ≢ Err PlanFileFault.Utf8 }
     ensures toml { result ≡ Err PlanFileFault.Toml → parse_document text.now ≡ None }
 {

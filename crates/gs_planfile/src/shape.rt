@@ -42,7 +42,8 @@ fn listed_at(alloc: Global, table: &Table) -> Result<Shape, PlanFileFault>
 
 fn shape_named(alloc: Global, table: &Table, name: &str) -> Result<Shape, PlanFileFault>
     ensures ok { IfOk result (λ shape. shape_named name.now (table_view table.now) ≡ Ok shape) }
-    ensures err { IfErr result (λ e. e ≢ PlanFileFault.OutOfMemory → shape_named name.now (table_view table.now) ≡ Err e) }
+    ensures err { IfErr result (λ e. e ≢ PlanFileFault.OutOfMemory
+        → shape_named name.now (table_view table.now) ≡ Err e) }
 {
     match name {
         "line" => line_at(table),
@@ -54,7 +55,7 @@ fn shape_named(alloc: Global, table: &Table, name: &str) -> Result<Shape, PlanFi
 }
 
 /// The shape that the topology names, with the keys that it needs.
-pub fn shape_at(alloc: Global, table: &Table) -> Result<Shape, PlanFileFault>
+pub(crate) fn shape_at(alloc: Global, table: &Table) -> Result<Shape, PlanFileFault>
     ensures ok { IfOk result (λ shape. shape_at (table_view table.now) ≡ Ok shape) }
     ensures err { IfErr result (λ e. e ≢ PlanFileFault.OutOfMemory → shape_at (table_view table.now) ≡ Err e) }
 {

@@ -1,7 +1,7 @@
 use super::key::Key;
-use super::key::PlanFileFault::{self, Extra, Kind, Missing, Range, Toml, Utf8};
+use super::key::PlanFileFault::{self, Extra, Kind, Missing, OutOfMemory, Range, Toml, Utf8};
 use super::read::read_plan;
-use super::text::base;
+use super::text::{EdgeList, EdgeSpan, Shape, Spans, base};
 use super::write::migrate;
 use std::alloc::Global;
 use std::test::Fail;
@@ -151,6 +151,25 @@ fn keeps_spans(rt: HostRuntime) -> Result<(), Fail> {
     Ok(())
 }
 
+#[test]
+fn a_copy_says_the_same(rt: HostRuntime) -> Result<(), Fail> {
+    let alloc = rt.alloc();
+    let span = EdgeSpan {
+        a: 1,
+        b: 2,
+        delay_min: 3,
+        delay_max: 4,
+        kappa: Some(5),
+    };
+    let mut text = base(alloc, 3);
+    text.shape = Shape::Edges(3, EdgeList::from_vec(vec![in alloc; (0, 1), (1, 2)]?));
+    text.spans = Spans::from_vec(vec![in alloc; span]?);
+    let copy = text.copy(alloc)?;
+    let said = format!(in alloc; "{text:?}")?;
+    assert_eq!(rt; format!(in alloc; "{copy:?}")?.as_str(), said.as_str());
+    Ok(())
+}
+
 /// The built-in line of 33 is `LINE`, and `NEWEST` is how version 2 writes it.
 #[test]
 fn writes_the_built_in_line(rt: HostRuntime) -> Result<(), Fail> {
@@ -288,6 +307,22 @@ fn refuses_at_the_first_fault(rt: HostRuntime) -> Result<(), Fail> {
             Some(fault),
             "{old} -> {new}"
         );
+    }
+    Ok(())
+}
+
+#[test]
+fn each_fault_has_its_words(rt: HostRuntime) -> Result<(), Fail> {
+    for (fault, words) in [
+        (Utf8, "utf8"),
+        (Toml, "toml"),
+        (Missing(Key::DelayMin), "missing delay_min"),
+        (Kind(Key::Spans), "kind spans"),
+        (Range(Key::Version), "range version"),
+        (Extra, "extra"),
+        (OutOfMemory, ""),
+    ] {
+        assert_eq!(rt; fault.to_string(rt.alloc())?.as_str(), words);
     }
     Ok(())
 }

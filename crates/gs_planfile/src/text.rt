@@ -30,7 +30,7 @@ pub struct EdgeSpan {
 }
 
 /// Edges with numbers of their own. Contracts see the list of them.
-#[derive(Clone, Debug, Drop)]
+#[derive(Debug, Drop)]
 pub struct Spans {
     items: Vec<EdgeSpan>,
 }
@@ -61,7 +61,7 @@ impl Spans {
 }
 
 /// Edges as pairs of nodes. Contracts see the list of them.
-#[derive(Clone, Debug, Drop)]
+#[derive(Debug, Drop)]
 pub struct EdgeList {
     items: Vec<(u32, u32)>,
 }
@@ -91,11 +91,11 @@ impl EdgeList {
 }
 
 /// The graph of a network.
-#[derive(Clone, Debug, Drop)]
+#[derive(Debug, Drop)]
 pub enum Shape {
     /// This many nodes, each with an edge to the next.
     Line(u32),
-    /// This many nodes, each with an edge to the next, and the last to the first.
+    /// This many nodes, each with an edge to the next and, from three nodes on, the last to the first.
     Ring(u32),
     /// Rows and columns of nodes, with edges to the right and downwards.
     Grid(u32, u32),
@@ -105,7 +105,7 @@ pub enum Shape {
 
 /// What a plan file says, before anything of it is checked against the rest. `Key` says what each
 /// number is.
-#[derive(Clone, Debug, Drop)]
+#[derive(Debug, Drop)]
 pub struct PlanText {
     pub version: Version,
     pub cluster: u32,

@@ -1,13 +1,14 @@
 ghost use Rattle.std.specs.Prelude.{◌≡◌, ◌<◌, ◌^◌, IfOk, IfSome, option_map};
 ghost use Rattle.toml.specs.View.{table_view, view};
-ghost use Rattle.gs_planfile.specs.Values.{kappa_at, kappa_of, number_at, number_of, number_or, value_at, version_at, version_of};
+ghost use Rattle.gs_planfile.specs.Values.{kappa_at, kappa_of, number_at, number_of, number_or};
+ghost use Rattle.gs_planfile.specs.Values.{value_at, version_at, version_of};
 
 use crate::key::{Key, PlanFileFault};
 use crate::text::Version;
 use toml::{Table, Value};
 
 /// The number that a value is.
-pub fn number_of(key: Key, value: &Value) -> Result<u32, PlanFileFault>
+pub(crate) fn number_of(key: Key, value: &Value) -> Result<u32, PlanFileFault>
     ensures { result ≡ number_of key (view value.now) }
 {
     match value {
@@ -17,7 +18,7 @@ pub fn number_of(key: Key, value: &Value) -> Result<u32, PlanFileFault>
 }
 
 /// The kappa that a value is.
-pub fn kappa_of(key: Key, value: &Value) -> Result<u64, PlanFileFault>
+pub(crate) fn kappa_of(key: Key, value: &Value) -> Result<u64, PlanFileFault>
     ensures value { result ≡ kappa_of key (view value.now) }
     ensures fits { IfOk result (λ kappa. kappa < 2 ^ 62) }
 {
@@ -30,6 +31,7 @@ pub fn kappa_of(key: Key, value: &Value) -> Result<u64, PlanFileFault>
     }
 }
 
+/// The version that a value is.
 fn version_of(value: &Value) -> Result<Version, PlanFileFault>
     ensures { result ≡ version_of (view value.now) }
 {
@@ -48,14 +50,14 @@ fn version_of(value: &Value) -> Result<Version, PlanFileFault>
 }
 
 /// The value at a key, where the key stands.
-pub fn value_at<'a>(table: &'a Table, key: Key) -> Option<&'a Value>
+pub(crate) fn value_at<'a>(table: &'a Table, key: Key) -> Option<&'a Value>
     ensures { option_map (λ v. view v.now) result ≡ value_at key (table_view table.now) }
 {
     table.get(key.name())
 }
 
 /// The number at a key that is needed.
-pub fn number_at(table: &Table, key: Key) -> Result<u32, PlanFileFault>
+pub(crate) fn number_at(table: &Table, key: Key) -> Result<u32, PlanFileFault>
     ensures { result ≡ number_at key (table_view table.now) }
 {
     match value_at(table, key) {
@@ -65,7 +67,7 @@ pub fn number_at(table: &Table, key: Key) -> Result<u32, PlanFileFault>
 }
 
 /// The number at a key that may be left out.
-pub fn number_or(table: &Table, key: Key, otherwise: u32) -> Result<u32, PlanFileFault>
+pub(crate) fn number_or(table: &Table, key: Key, otherwise: u32) -> Result<u32, PlanFileFault>
     ensures { result ≡ number_or otherwise key (table_view table.now) }
 {
     match value_at(table, key) {
@@ -74,7 +76,8 @@ pub fn number_or(table: &Table, key: Key, otherwise: u32) -> Result<u32, PlanFil
     }
 }
 
-pub fn version_at(table: &Table) -> Result<Version, PlanFileFault>
+/// The version, which is needed.
+pub(crate) fn version_at(table: &Table) -> Result<Version, PlanFileFault>
     ensures { result ≡ version_at (table_view table.now) }
 {
     match value_at(table, Key::Version) {
@@ -83,7 +86,8 @@ pub fn version_at(table: &Table) -> Result<Version, PlanFileFault>
     }
 }
 
-pub fn kappa_at(table: &Table) -> Result<Option<u64>, PlanFileFault>
+/// The kappa, which may be left out.
+pub(crate) fn kappa_at(table: &Table) -> Result<Option<u64>, PlanFileFault>
     ensures value { result ≡ kappa_at (table_view table.now) }
     ensures fits { IfOk result (λ o. IfSome o (λ kappa. kappa < 2 ^ 62)) }
 {

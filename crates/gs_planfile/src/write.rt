@@ -1,16 +1,23 @@
-ghost use Rattle.std.specs.Prelude.{◌≡◌, ◌<◌, ◌^◌, All, IfOk, IfSome, OnOk, Ok, map, pos};
+ghost use Rattle.std.specs.Prelude.{◌≡◌, ◌<◌, ◌^◌, All, IfOk, IfSome, OnOk, Ok, Some, map, pos};
 ghost use Rattle.std.specs.List.{AllByRecursion};
 ghost use Rattle.toml.specs.Data.{integer, string};
+ghost use Rattle.toml.specs.Parse.{parse_document};
 ghost use Rattle.toml.specs.View.{table_view, view};
 ghost use Rattle.gs_planfile.specs.Meaning.{plan_of};
 ghost use Rattle.gs_planfile.specs.Texts.{IsText, KappaFits, newest};
-ghost use Rattle.gs_planfile.specs.Writing.{EdgeFits, Fits, RatesFit, ShapeFits, SpanFits, TimesFit, edge_data, edges_data, put, put_kappa, put_number, put_rates, put_shape, put_spans, put_times, span_data, written};
+ghost use Rattle.gs_planfile.specs.Writing.{EdgeFits, Fits, RatesFit, ShapeFits, SpanFits, TimesFit};
+ghost use Rattle.gs_planfile.specs.Writing.{edge_data, edges_data, span_data, written};
+ghost use Rattle.gs_planfile.specs.Writing.{put, put_kappa, put_number, put_rates, put_shape, put_spans, put_times};
 
 use crate::key::Key;
 use crate::text::{EdgeSpan, PlanText, Shape};
 use std::alloc::{AllocError, Global};
 use toml::{Table, Value};
 
+// `fits` says what the types of a text's numbers say, as far as the code has read them: a number is
+// read back only where it is below 2^32.
+
+/// Sets the value of a key.
 fn put_value(alloc: Global, table: &mut Table, key: Key, value: Value) -> Result<(), AllocError>
     ensures { OnOk result (table_view table.new ≡ put key (view value) (table_view table.old)) }
 {
@@ -19,6 +26,7 @@ fn put_value(alloc: Global, table: &mut Table, key: Key, value: Value) -> Result
     Ok(())
 }
 
+/// A number as a value.
 fn integer(n: u32) -> Value
     ensures view { view result ≡ integer (pos n) }
     ensures fits { n < 2 ^ 32 }
@@ -26,6 +34,7 @@ fn integer(n: u32) -> Value
     Value::Integer(i64::from(n))
 }
 
+/// Sets a key to a number.
 fn put_number(alloc: Global, table: &mut Table, key: Key, n: u32) -> Result<(), AllocError>
     ensures set { OnOk result (table_view table.new ≡ put_number key n (table_view table.old)) }
     ensures fits { n < 2 ^ 32 }
@@ -33,6 +42,7 @@ fn put_number(alloc: Global, table: &mut Table, key: Key, n: u32) -> Result<(), 
     put_value(alloc, table, key, integer(n))
 }
 
+/// Sets the topology to a name.
 fn put_topology(alloc: Global, table: &mut Table, name: &str) -> Result<(), AllocError>
     ensures { OnOk result (table_view table.new ≡ put Key.Topology (string name.now) (table_view table.old)) }
 {
@@ -40,6 +50,7 @@ fn put_topology(alloc: Global, table: &mut Table, name: &str) -> Result<(), Allo
     put_value(alloc, table, Key::Topology, Value::String(name))
 }
 
+/// An edge as an array of two integers.
 fn edge_value(alloc: Global, edge: (u32, u32)) -> Result<Value, AllocError>
     ensures view { IfOk result (λ v. view v ≡ edge_data edge) }
     ensures fits { OnOk result (EdgeFits edge) }
@@ -48,6 +59,7 @@ fn edge_value(alloc: Global, edge: (u32, u32)) -> Result<Value, AllocError>
     Ok(Value::Array(vec![in alloc; integer(a), integer(b)]?))
 }
 
+/// Sets the list of edges.
 fn put_edges(alloc: Global, table: &mut Table, edges: &[(u32, u32)]) -> Result<(), AllocError>
     ensures set { OnOk result (table_view table.new ≡ put Key.Edges (edges_data edges.now) (table_view table.old)) }
     ensures fits { OnOk result (AllByRecursion EdgeFits edges.now) }
@@ -59,6 +71,7 @@ fn put_edges(alloc: Global, table: &mut Table, edges: &[(u32, u32)]) -> Result<(
     put_value(alloc, table, Key::Edges, Value::Array(items))
 }
 
+/// Sets the topology and the keys that it needs.
 #[tactic(auto, unfolding(crate::specs::Writing::put_shape))]
 fn put_shape(alloc: Global, table: &mut Table, shape: &Shape) -> Result<(), AllocError>
     ensures set { OnOk result (table_view table.new ≡ put_shape shape.now (table_view table.old)) }
@@ -86,6 +99,7 @@ fn put_shape(alloc: Global, table: &mut Table, shape: &Shape) -> Result<(), Allo
     }
 }
 
+/// Sets the numbers of the rate.
 fn put_rates(alloc: Global, table: &mut Table, text: &PlanText) -> Result<(), AllocError>
     ensures set { OnOk result (table_view table.new ≡ put_rates text.now (table_view table.old)) }
     ensures fits { OnOk result (RatesFit text.now) }
@@ -95,6 +109,7 @@ fn put_rates(alloc: Global, table: &mut Table, text: &PlanText) -> Result<(), Al
     put_number(alloc, table, Key::Mu, text.mu)
 }
 
+/// Sets the numbers of ticks and beacons.
 fn put_times(alloc: Global, table: &mut Table, text: &PlanText) -> Result<(), AllocError>
     ensures set { OnOk result (table_view table.new ≡ put_times text.now (table_view table.old)) }
     ensures fits { OnOk result (TimesFit text.now) }
@@ -107,6 +122,7 @@ fn put_times(alloc: Global, table: &mut Table, text: &PlanText) -> Result<(), Al
     put_number(alloc, table, Key::Age, text.age)
 }
 
+/// Sets a kappa that is given.
 #[tactic(auto, unfolding(crate::specs::Writing::put_kappa))]
 fn put_kappa(alloc: Global, table: &mut Table, kappa: Option<u64>) -> Result<(), AllocError>
     requires { IfSome kappa (λ k. k < 2 ^ 62) }
@@ -118,6 +134,7 @@ fn put_kappa(alloc: Global, table: &mut Table, kappa: Option<u64>) -> Result<(),
     }
 }
 
+/// A span as an array of four or five integers.
 fn span_value(alloc: Global, span: &EdgeSpan) -> Result<Value, AllocError>
     requires { KappaFits span.now }
     ensures view { IfOk result (λ v. view v ≡ span_data span.now) }
@@ -135,6 +152,7 @@ fn span_value(alloc: Global, span: &EdgeSpan) -> Result<Value, AllocError>
     Ok(Value::Array(items))
 }
 
+/// Sets the list of spans, where there are any.
 #[tactic(auto, unfolding(crate::specs::Writing::put_spans))]
 fn put_spans(alloc: Global, table: &mut Table, spans: &[EdgeSpan]) -> Result<(), AllocError>
     requires { All KappaFits spans.now }
@@ -148,6 +166,7 @@ fn put_spans(alloc: Global, table: &mut Table, spans: &[EdgeSpan]) -> Result<(),
     put_value(alloc, table, Key::Spans, Value::Array(items))
 }
 
+/// The spans as values, in their order.
 fn span_values(alloc: Global, spans: &[EdgeSpan]) -> Result<Vec<Value>, AllocError>
     requires { All KappaFits spans.now }
     ensures view { IfOk result (λ items. map view items.items ≡ map span_data spans.now) }
@@ -183,7 +202,8 @@ fn table_of(alloc: Global, text: &PlanText) -> Result<Table, AllocError>
 /// are left out.
 pub fn migrate(alloc: Global, text: &PlanText) -> Result<Vec<u8>, AllocError>
     requires { IsText text.now }
-    ensures { IfOk result (λ bytes. plan_of bytes.items ≡ Ok (newest text.now)) }
+    ensures plan { IfOk result (λ bytes. plan_of bytes.items ≡ Ok (newest text.now)) }
+    ensures document { IfOk result (λ bytes. parse_document bytes.items ≡ Some (written text.now)) }
 {
     let table = table_of(alloc, text)?;
     match toml::table_to_string(alloc, &table) {

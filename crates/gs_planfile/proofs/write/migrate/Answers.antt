@@ -12,4 +12,7 @@ returns-in-Ok c =
     let text = is_utf8-from_IsUtf8 (string_bytes c.in-Ok.text) (IsUtf8-string_bytes c.in-Ok.text) in
     let flat : members_depth (written t) ≤ 80 = shallow t in
     let read : parse_document (string_bytes c.in-Ok.text) ≡ Some (written t) = rw c.in_ok-table.ensures.view at c.in-Ok.ensures.reads_back flat in
-    rw (c.into_bytes.ensures.value, text, read) (plan_back t c.in_ok-table.ensures.fits)
+    record {
+      plan = rw (c.into_bytes.ensures.value, text, read) (plan_back t c.in_ok-table.ensures.fits);
+      document = rw c.into_bytes.ensures.value read;
+    }
