@@ -1,5 +1,5 @@
 -- What holds of a plan without a fault.
-use Rattle.std.proofs.Common.{◌≡◌, ℕ, ◌+◌, ◌*◌, ◌≤◌, ◌^◌, ◌||◌, ◌++◌, arith, refl, nat_lt, not, cond, Bool, true, false, List, [], ◌∷◌, All, Option, Some, None, unwrap_or, map, is_some, slice_index_or}
+use Rattle.std.proofs.Common.{◌≡◌, ℕ, ◌+◌, ◌*◌, ◌≤◌, ◌^◌, ◌||◌, ◌++◌, arith, refl, nat_lt, not, cond, Bool, true, false, List, [], ◌∷◌, All, Option, Some, None, unwrap_or, length, map, is_some, slice_index_or}
 use Rattle.std.specs.List.{find, list_any}
 use Rattle.std.specs.Option.{option_map_or, option_or}
 use Rattle.std.proofs.lemmas.Bool.{leb-false, ltb-false}
@@ -12,7 +12,7 @@ use Rattle.gs_plan.specs.declared.edge.EdgeText.{EdgeText}
 use Rattle.gs_plan.specs.declared.fault.PlanFault.{PlanFault}
 use Rattle.gs_plan.specs.declared.fault.PlanFault.TheVariants as fault
 use Rattle.gs_plan.specs.Accepted.{IsAccepted, IsFine}
-use Rattle.gs_plan.specs.Bounds.{global_in, kappa_most}
+use Rattle.gs_plan.specs.Bounds.{global_in, greatest_kappa_in}
 use Rattle.gs_plan.specs.Edges.{edge_text, own_text, span_between, span_text}
 use Rattle.gs_plan.specs.Faults.{are_bad_delays, are_bad_ports, are_low_kappas, beacon_bound, fault_over, fault_where, is_bad_span, is_low_kappa, is_one, is_outside, is_wide, span_fault}
 use Rattle.gs_plan.specs.Numbers.{least_kappa_in, q_in, r_in}
@@ -34,7 +34,7 @@ neither true b h = cc
 neither false b h = (refl, h)
 
 -- what is not outside is inside
-inside : (low high x : ℕ) → is_outside low high x ≡ false → (low ≤ x) × (x ≤ high)
+pub inside : (low high x : ℕ) → is_outside low high x ≡ false → (low ≤ x) × (x ≤ high)
 inside low high x h =
     let parts = neither (nat_lt x low) (nat_lt high x) h in
     (ltb-false x low parts.0, ltb-false high x parts.1)
@@ -69,9 +69,11 @@ not_low (Some kappa) least h = ltb-false kappa least h
 fine_of : (t : PlanText) (e : EdgeText) → are_bad_delays e.delay_min e.delay_max ≡ false → is_low_kappa t e ≡ false → IsFine t e
 fine_of t e delays kappa =
     let parts = neither (nat_lt e.delay_max e.delay_min) (is_outside 1 65536 e.delay_max) delays in
+    let range = inside 1 65536 e.delay_max parts.1 in
     record {
       delays = ltb-false e.delay_max e.delay_min parts.0;
-      near = (inside 1 65536 e.delay_max parts.1).1;
+      some = range.0;
+      near = range.1;
       margin = not_low e.kappa (least_kappa_in t e) kappa;
     }
 
@@ -106,6 +108,8 @@ accepted_of t g none =
     let kappa = none_of (fault_where (are_low_kappas t) fault.Kappa) _ weak.1 in
     let wide = none_of (fault_where (is_wide t g) fault.Wide) _ kappa.1 in
     let ticks = inside 1 65536 t.tick (passes (is_outside 1 65536 t.tick) fault.Tick tick.0) in
+    let turns = inside 1 1024 t.every (passes (is_outside 1 1024 t.every) fault.Every every.0) in
+    let ports = neither (nat_lt t.port 1024) (nat_lt 65536 (t.port + 2 * length g.edges + g.nodes)) (passes (are_bad_ports t g) fault.Port port.0) in
     let level = inside 1 32 t.levels (passes (is_outside 1 32 t.levels) fault.Levels levels.0) in
     let lows = neither (is_low_kappa t (own_text t)) (list_any (λ s. is_low_kappa t (span_text s)) t.spans) (passes (are_low_kappas t) fault.Kappa kappa.0) in
     let own = fine_of t (own_text t) (passes (are_bad_delays t.delay_min t.delay_max) fault.Delay delay.0) lows.0 in
@@ -114,13 +118,17 @@ accepted_of t g none =
     record {
       tick = ticks.0;
       tick_most = ticks.1;
-      every = (inside 1 1024 t.every (passes (is_outside 1 1024 t.every) fault.Every every.0)).0;
+      every = turns.0;
+      every_most = turns.1;
+      losses = ltb-false 1024 t.losses (passes (nat_lt 1024 t.losses) fault.Losses losses.0);
       age = ltb-false t.age (beacon_bound t g) (passes (nat_lt t.age (beacon_bound t g)) fault.Age age.0);
       some_level = level.0;
       few_levels = level.1;
+      first_port = ltb-false t.port 1024 ports.0;
+      ports = ltb-false 65536 (t.port + 2 * length g.edges + g.nodes) ports.1;
       strong = ltb-false (q_in t) (2 * r_in t) (passes (nat_lt (q_in t) (2 * r_in t)) fault.Weak weak.0);
       own = own;
       edges = edges_fine t g.edges (λ e. found_fine t (λ s. joins (s.a, s.b) e.0 e.1) t.spans delays kappas own);
       in_age = (let enough = ltb-false t.age (beacon_bound t g) (passes (nat_lt t.age (beacon_bound t g)) fault.Age age.0) in λ k d h. (let below = each_below (λ e. e.delay_max) t g k d h in omega (arith, below, enough)));
-      fits = leb-false (2 ^ 62) (2 * t.levels * kappa_most t g + global_in t g) (passes (is_wide t g) fault.Wide wide.0);
+      fits = leb-false (2 ^ 62) (2 * t.levels * greatest_kappa_in t g + global_in t g) (passes (is_wide t g) fault.Wide wide.0);
     }

@@ -9,7 +9,7 @@ use Rattle.gs_topo.proofs.Tables.{le_greatest}
 use Rattle.gs_planfile.specs.declared.text.PlanText.{PlanText}
 use Rattle.gs_plan.specs.declared.edge.EdgeText.{EdgeText}
 use Rattle.gs_plan.specs.Accepted.{IsAccepted}
-use Rattle.gs_plan.specs.Bounds.{greatest_in, kappa_most}
+use Rattle.gs_plan.specs.Bounds.{greatest_in, greatest_kappa_in}
 use Rattle.gs_plan.specs.Edges.{edge_texts, own_text}
 use Rattle.gs_plan.specs.Kept.{AreWords}
 use Rattle.gs_plan.specs.Levels.{best_of, IsBest}
@@ -28,9 +28,9 @@ each_below f t g k d h =
     rw is at below
 
 -- the greatest kappa of an accepted plan
-pub kappa_fits : (t : PlanText) (g : Graph) → IsAccepted t g → (2 * t.levels * kappa_most t g < 2 ^ 62) × (kappa_most t g < 2 ^ 61)
+pub kappa_fits : (t : PlanText) (g : Graph) → IsAccepted t g → (2 * t.levels * greatest_kappa_in t g < 2 ^ 62) × (greatest_kappa_in t g < 2 ^ 61)
 kappa_fits t g is =
-    let once : 2 * 1 * kappa_most t g ≤ 2 * t.levels * kappa_most t g = mul-le-mul_right (kappa_most t g) (let h = is.some_level in omega (arith, h)) in
+    let once : 2 * 1 * greatest_kappa_in t g ≤ 2 * t.levels * greatest_kappa_in t g = mul-le-mul_right (greatest_kappa_in t g) (let h = is.some_level in omega (arith, h)) in
     let fits = is.fits in
     (omega (arith, fits), omega (arith, fits, once))
 

@@ -2,19 +2,23 @@
 use Rattle.std.proofs.Common.{◌≡◌, ℕ, ◌*◌, ◌<◌, ◌≤◌, ◌^◌, ◌||◌, ◌&&◌, ◌==◌, arith, refl, ap, sym, subst, ◌∙◌, inl, inr, map, length, List, [], ◌∷◌, Bool, true, false, Option, Some, None, is_some, get_or, slice_get, slice_index, IfSome}
 use Rattle.std.proofs.Math.Nat.{mul-le-mul_left}
 use Rattle.std.proofs.lemmas.Option.{get_or_from_slice_get, slice_get_within}
-use Rattle.gs_plan.specs.Bounds.{kappa_most}
+use Rattle.gs_plan.specs.Bounds.{greatest_kappa_in}
 use Rattle.gs_plan.proofs.Keeping.{each_below}
+use Rattle.std.specs.List.{Contains}
 use Rattle.std.specs.Option.{option_map_or}
 use Rattle.std.proofs.lemmas.List.{get_or-map, length-map}
+use Rattle.std.proofs.lemmas.List.Elements.{All-contains}
 use Rattle.std.proofs.lemmas.List.Quantifiers.{position-Some}
 use Rattle.gs_topo.specs.Graph.{Graph, Adjacent, joins, number_of}
 use Rattle.gs_topo.specs.Walks.{IsLeast, IsWalk, length_of}
 use Rattle.gs_topo.specs.Weights.{length_between}
 use Rattle.gs_topo.proofs.Ascending.{joins-cases}
+use Rattle.gs_topo.proofs.Members.{Contains-map, member-from_list_any}
 use Rattle.gs_planfile.specs.declared.text.EdgeSpan.{EdgeSpan}
 use Rattle.gs_planfile.specs.declared.text.PlanText.{PlanText}
 use Rattle.gs_plan.specs.declared.edge.EdgeNumbers.{EdgeNumbers}
 use Rattle.gs_plan.specs.declared.edge.EdgeText.{EdgeText}
+use Rattle.gs_plan.specs.Accepted.{IsAccepted, IsFine}
 use Rattle.gs_plan.specs.Edges.{edge_text, edge_texts, own_text, span_between, span_text}
 use Rattle.gs_plan.specs.Kept.{lengths_in}
 use Rattle.gs_plan.specs.Numbers.{kappa_between, kappa_in, numbers_in, numbers_of}
@@ -40,6 +44,17 @@ joined_text t e v w h = elim (joins-cases e v w h) [
   | inl there ↦ let a : e.0 ≡ v = there.0 in let b : e.1 ≡ w = there.1 in ap (λ x. edge_text t (x, e.1)) a ∙ ap (λ x. edge_text t (v, x)) b
   | inr back ↦ let a : e.0 ≡ w = back.0 in let b : e.1 ≡ v = back.1 in ap (λ x. edge_text t (x, e.1)) a ∙ ap (λ x. edge_text t (w, x)) b ∙ same_text t w v
 ]
+
+-- each edge of an accepted plan is fine
+pub fine_at : (t : PlanText) (g : Graph) (e : ℕ × ℕ) → IsAccepted t g → Contains g.edges e → IsFine t (edge_text t e)
+fine_at t g e is member =
+    All-contains (IsFine t) (edge_texts t g) (edge_text t e) is.edges (Contains-map (edge_text t) g.edges e member)
+
+-- and so is that of any two neighbours
+pub fine_between : (t : PlanText) (g : Graph) (v w : ℕ) → IsAccepted t g → Adjacent g v w → IsFine t (edge_text t (v, w))
+fine_between t g v w is next =
+    let m = member-from_list_any (λ e. joins e v w) g.edges next in
+    subst (λ e. IsFine t e) (joined_text t m.0 v w m.2) (fine_at t g m.0 is m.1)
 
 -- the place of an edge, and what the plan says there
 pub text_at : (t : PlanText) (g : Graph) (v w e : ℕ) (d : EdgeText) → number_of g v w ≡ Some e → (e < length (edge_texts t g)) × (get_or (edge_texts t g) e d ≡ edge_text t (v, w))
@@ -95,7 +110,7 @@ pub if_some : {X : Type 0} (P : X → Type 0) {o : Option X} {x : X} → o ≡ S
 if_some P e h = subst (λ o. IfSome o P) (sym e) h
 
 -- a kappa of an edge fits where the greatest does
-pub edge_fits : (t : PlanText) (g : Graph) (e : ℕ) (n : EdgeNumbers) (kmax : ℕ) → slice_get (numbers_of t g) e ≡ Some n → kmax ≡ kappa_most t g → 2 * t.levels * kmax < 2 ^ 62 → 2 * t.levels * n.kappa < 2 ^ 62
+pub edge_fits : (t : PlanText) (g : Graph) (e : ℕ) (n : EdgeNumbers) (kmax : ℕ) → slice_get (numbers_of t g) e ≡ Some n → kmax ≡ greatest_kappa_in t g → 2 * t.levels * kmax < 2 ^ 62 → 2 * t.levels * n.kappa < 2 ^ 62
 edge_fits t g e n kmax found most fits =
     let within : e < length (numbers_of t g) = slice_get_within (numbers_of t g) e n found in
     let inside : e < length (edge_texts t g) = rw (← length-map (edge_texts t g) (numbers_in t)) within in

@@ -72,8 +72,7 @@ sound_over t e x low fine words =
     let most : t.lo * e.delay_max ≤ t.lo * 65536 = mul-le-mul_left t.lo fine.near in
     let margin = fine.margin in
     record {
-      margin = omega (arith, margin);
-      kappa = words.high;
+      triggers = record { margin = omega (arith, margin); kappa = words.high };
       comp = omega (arith, parts, most, low);
       jump = omega (arith, parts, most, low);
     }
@@ -104,6 +103,10 @@ range_ascends a n = λ k h.
     let next : slice_index (range_with_len a n) (k + 1) ≡ a + (k + 1) = get_or-range_with_len a n (k + 1) 0 (omega (arith, count, h)) in
     omega (arith, here, next)
 
+-- so do the neighbours of a node
+pub neighbours_ascend : (g : Graph) (v : ℕ) → IsStrictlyIncreasing (neighbours_of g v)
+neighbours_ascend g v = IsStrictlyIncreasing-filter (adjacent g v) (range_with_len 0 g.nodes) (range_ascends 0 g.nodes)
+
 -- the nodes of the links are the neighbours
 linked : (t : PlanText) (v : ℕ) (xs : List ℕ) → map (λ link. link.node) (map (link_in t v) xs) ≡ xs
 linked t v [] = refl
@@ -123,7 +126,7 @@ params_are_valid t g rate v links lead is numbers graph are lead_is =
     let ticks : drift_in t * t.tick ≤ drift_in t * 65536 = mul-le-mul_left (drift_in t) is.tick_most in
     let next : (k : ℕ) (d : ℕ) → k < length (neighbours_of g v) → Adjacent g v (get_or (neighbours_of g v) k d) = λ k d h. (neighbour_inside g v k d h).1 in
     record {
-      ascending = rw (are, linked t v (neighbours_of g v)) (IsStrictlyIncreasing-filter (adjacent g v) (range_with_len 0 g.nodes) (range_ascends 0 g.nodes));
+      ascending = rw (are, linked t v (neighbours_of g v)) (neighbours_ascend g v);
       others = rw are (All-map (λ link. link.node ≢ v) (link_in t v) (neighbours_of g v) (λ k d h. λ same.
           no_self (shape_nodes t.shape) (shape_edges t.shape) v (subst (λ x. Adjacent x v v) graph (subst (λ x. Adjacent g v x) same (next k d h)))));
       sound = rw are (All-map IsSound (link_in t v) (neighbours_of g v) (λ k d h. sound_link t g v (get_or (neighbours_of g v) k d) low is (next k d h)));

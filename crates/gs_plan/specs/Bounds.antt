@@ -13,18 +13,18 @@ abbrev pub greatest_in : (EdgeText → ℕ) → PlanText → Graph → ℕ
 greatest_in f t g = fold max (f (own_text t)) (map f (edge_texts t g))
 
 -- jmax, kmax and Umax
-abbrev pub spread_most : PlanText → Graph → ℕ
-spread_most t g = greatest_in (spread_in t) t g
+abbrev pub greatest_spread_in : PlanText → Graph → ℕ
+greatest_spread_in t g = greatest_in (spread_in t) t g
 
-abbrev pub kappa_most : PlanText → Graph → ℕ
-kappa_most t g = greatest_in (kappa_in t) t g
+abbrev pub greatest_kappa_in : PlanText → Graph → ℕ
+greatest_kappa_in t g = greatest_in (kappa_in t) t g
 
-abbrev pub delay_most : PlanText → Graph → ℕ
-delay_most t g = greatest_in (λ e. e.delay_max) t g
+abbrev pub greatest_delay_in : PlanText → Graph → ℕ
+greatest_delay_in t g = greatest_in (λ e. e.delay_max) t g
 
 -- how far a maximum may lag behind the greatest clock
 abbrev pub lambda_in : PlanText → Graph → ℕ
-lambda_in t g = diameter_of g * ((t.hi - g_in t) * t.age + spread_most t g)
+lambda_in t g = diameter_of g * ((t.hi - g_in t) * t.age + greatest_spread_in t g)
 
 -- G(0): the bound of the difference of any two clocks
 abbrev pub global_in : PlanText → Graph → ℕ
@@ -40,7 +40,7 @@ skew_in t g kappa s = 2 * s * kappa + level_in t g s
 
 -- local(s): that of any edge
 abbrev pub local_in : PlanText → Graph → ℕ → ℕ
-local_in t g s = skew_in t g (kappa_most t g) s
+local_in t g s = skew_in t g (greatest_kappa_in t g) s
 
 -- the least local(s) of the plan's levels, with the first s that has it
 abbrev pub best_in : PlanText → Graph → ℕ × ℕ

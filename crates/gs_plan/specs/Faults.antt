@@ -15,7 +15,7 @@ use Rattle.gs_plan.specs.declared.fault.PlanFault.TheVariants as fault
 use Rattle.gs_plan.specs.Shapes.{shape_nodes, shape_edges, graph_of_text}
 use Rattle.gs_plan.specs.Edges.{own_text, span_between, span_text}
 use Rattle.gs_plan.specs.Numbers.{least_kappa_in, q_in, r_in}
-use Rattle.gs_plan.specs.Bounds.{delay_most, global_in, kappa_most}
+use Rattle.gs_plan.specs.Bounds.{greatest_delay_in, global_in, greatest_kappa_in}
 
 -- the fault where the test holds
 abbrev pub fault_where : Bool → PlanFault → Option PlanFault
@@ -38,10 +38,12 @@ abbrev pub is_one : Version → Bool
 is_one One = true
 is_one Two = false
 
--- A span is at fault where the version has none, where it names no edge, where one of the earlier spans names the same edge, or for its delays.
+-- A span is at fault where the version has none, where it names no edge, where one of the earlier spans names the same
+-- edge, or for its delays.
 abbrev pub is_bad_span : Version → Graph → List EdgeSpan → EdgeSpan → Bool
 is_bad_span version g earlier s =
-    is_one version || (not (adjacent g s.a s.b) || (is_some (span_between earlier s.a s.b) || are_bad_delays s.delay_min s.delay_max))
+    is_one version
+    || (not (adjacent g s.a s.b) || (is_some (span_between earlier s.a s.b) || are_bad_delays s.delay_min s.delay_max))
 
 -- the first span at fault, from number i on
 unfoldable pub span_fault : Version → Graph → ℕ → List EdgeSpan → List EdgeSpan → Option PlanFault
@@ -51,7 +53,7 @@ span_fault version g i earlier (s ∷ ss) =
 
 -- the least age that lets beacons come in time, whatever is lost
 abbrev pub beacon_bound : PlanText → Graph → ℕ
-beacon_bound t g = (t.losses + 1) * t.every * t.tick + delay_most t g
+beacon_bound t g = (t.losses + 1) * t.every * t.tick + greatest_delay_in t g
 
 -- the ports that nodes use reach from `port` over two for each edge and one for each node
 abbrev pub are_bad_ports : PlanText → Graph → Bool
@@ -66,7 +68,7 @@ are_low_kappas t = is_low_kappa t (own_text t) || list_any (λ s. is_low_kappa t
 
 -- the greatest bound reaches the end of clocks
 abbrev pub is_wide : PlanText → Graph → Bool
-is_wide t g = nat_le (2 ^ 62) (2 * t.levels * kappa_most t g + global_in t g)
+is_wide t g = nat_le (2 ^ 62) (2 * t.levels * greatest_kappa_in t g + global_in t g)
 
 -- the first fault over a graph
 abbrev pub fault_over : PlanText → Graph → Option PlanFault

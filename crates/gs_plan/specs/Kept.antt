@@ -8,7 +8,7 @@ use Rattle.gs_plan.specs.declared.edge.EdgeText.{EdgeText}
 use Rattle.gs_plan.specs.declared.levels.Levels.{Levels}
 use Rattle.gs_plan.specs.Edges.{own_text}
 use Rattle.gs_plan.specs.Numbers.{comp_in, delta_in, iota_in, jump_in, kappa_in, least_kappa_in, numbers_of, r_in, sigma_in}
-use Rattle.gs_plan.specs.Bounds.{global_in, kappa_most, lambda_in}
+use Rattle.gs_plan.specs.Bounds.{global_in, greatest_kappa_in, lambda_in}
 
 -- the numbers of an edge are in order, and words of 64 bits hold them
 pub record AreWords (t : PlanText) (e : EdgeText) : Type 0 where
@@ -28,7 +28,7 @@ lengths_in t g = record { graph = g; lengths = map (λ n. n.kappa) (numbers_of t
 
 -- the numbers of a plan over its graph
 pub record AreGreatest (t : PlanText) (g : Graph) (kmax lag lead : ℕ) : Type 0 where
-  pub kappa : kmax ≡ kappa_most t g
+  pub kappa : kmax ≡ greatest_kappa_in t g
   pub lambda : lag ≡ lambda_in t g
   pub iota : lead ≡ iota_in t
   pub fits : 2 * t.levels * kmax < 2 ^ 62

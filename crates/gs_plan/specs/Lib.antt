@@ -9,3 +9,4 @@ pub mod Kept
 pub mod Sets
 pub mod Nodes
 pub mod Plans
+pub mod Words

@@ -11,7 +11,8 @@ use Rattle.gs_plan.specs.Numbers.{comp_in, delta_in, iota_in, jump_in, kappa_in}
 
 -- a link to node x over an edge
 abbrev pub link_over : PlanText → EdgeText → ℕ → Link
-link_over t e x = record { node = x; comp = comp_in t e; jump = jump_in t e; kappa = kappa_in t e; delta = delta_in t e }
+link_over t e x =
+    record { node = x; comp = comp_in t e; jump = jump_in t e; kappa = kappa_in t e; delta = delta_in t e }
 
 -- the link of node v to its neighbour x
 abbrev pub link_in : PlanText → ℕ → ℕ → Link

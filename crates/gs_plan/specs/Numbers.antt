@@ -2,6 +2,7 @@
 use Rattle.std.specs.Prelude.{ℕ, ◌+◌, ◌-◌, ◌*◌, ◌/◌, List, map, unwrap_or}
 use Rattle.std.specs.Int.{div_ceil}
 use Rattle.gs_units.specs.Accepted.{boosted, crept}
+use Rattle.gs_units.specs.Delays.{delay_comp, delay_jump, delay_spread}
 use Rattle.gs_planfile.specs.declared.text.PlanText.{PlanText}
 use Rattle.gs_topo.specs.Graph.{Graph}
 use Rattle.gs_plan.specs.Edges.{edge_text, edge_texts}
@@ -38,15 +39,15 @@ iota_in t = drift_in t * t.tick + 1
 
 -- j: how far the delays of an edge spread, in clock units
 abbrev pub spread_in : PlanText → EdgeText → ℕ
-spread_in t e = t.lo * (e.delay_max - e.delay_min)
+spread_in t e = delay_spread t.lo e.delay_min e.delay_max
 
 -- what a beacon's maximum is raised by for its way
 abbrev pub jump_in : PlanText → EdgeText → ℕ
-jump_in t e = t.lo * e.delay_min
+jump_in t e = delay_jump t.lo e.delay_min
 
 -- what a beacon's clock is raised by for its way
 abbrev pub comp_in : PlanText → EdgeText → ℕ
-comp_in t e = jump_in t e + spread_in t e / 2
+comp_in t e = delay_comp t.lo e.delay_min e.delay_max
 
 -- how far an offset may be off when it is used
 abbrev pub delta_in : PlanText → EdgeText → ℕ

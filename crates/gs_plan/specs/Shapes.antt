@@ -30,7 +30,8 @@ abbrev pub column_edges : ℕ → ℕ → List (ℕ × ℕ)
 column_edges cols r = map (λ c. (r * cols + c, r * cols + c + cols)) (range_with_len 0 cols)
 
 abbrev pub grid_edges : ℕ → ℕ → List (ℕ × ℕ)
-grid_edges rows cols = flat_map (row_edges cols) (range_with_len 0 rows) ++ flat_map (column_edges cols) (range_with_len 0 (rows - 1))
+grid_edges rows cols =
+    flat_map (row_edges cols) (range_with_len 0 rows) ++ flat_map (column_edges cols) (range_with_len 0 (rows - 1))
 
 -- the edges, in any order
 abbrev pub shape_edges : Shape → List (ℕ × ℕ)

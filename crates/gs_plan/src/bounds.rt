@@ -1,6 +1,6 @@
 ghost use Rattle.std.specs.Prelude.{◌≡◌, ◌<◌, ◌^◌};
 ghost use Rattle.gs_units.specs.Rates.{HasNumbers};
-ghost use Rattle.gs_plan.specs.Bounds.{delay_most, global_in, kappa_most, lambda_in, spread_most};
+ghost use Rattle.gs_plan.specs.Bounds.{greatest_delay_in, global_in, greatest_kappa_in, lambda_in, greatest_spread_in};
 ghost use Rattle.gs_plan.specs.Edges.{edge_texts, own_text};
 
 use crate::edge::{EdgeText, own_text};
@@ -12,7 +12,7 @@ use gs_units::Rate;
 /// The greatest delay of the plan and its edges.
 pub(crate) fn greatest_delay(text: &PlanText, topo: &Topology, edges: &[EdgeText]) -> u32
     requires { edges.now ≡ edge_texts text.now topo.now }
-    ensures { result ≡ delay_most text.now topo.now }
+    ensures { result ≡ greatest_delay_in text.now topo.now }
 {
     let mut most = own_text(text).delay_max;
     for edge in edges {
@@ -24,7 +24,7 @@ pub(crate) fn greatest_delay(text: &PlanText, topo: &Topology, edges: &[EdgeText
 /// The greatest spread of the delays of the plan and its edges.
 pub(crate) fn greatest_spread(text: &PlanText, topo: &Topology, edges: &[EdgeText]) -> u128
     requires { edges.now ≡ edge_texts text.now topo.now }
-    ensures value { result ≡ spread_most text.now topo.now }
+    ensures value { result ≡ greatest_spread_in text.now topo.now }
     ensures small { result < 2 ^ 64 }
 {
     let mut most = spread(text, own_text(text));
@@ -43,7 +43,7 @@ pub(crate) fn greatest_kappa(
 ) -> u128
     requires rate { HasNumbers text.now.lo text.now.hi text.now.mu rate }
     requires edges { edges.now ≡ edge_texts text.now topo.now }
-    ensures value { result ≡ kappa_most text.now topo.now }
+    ensures value { result ≡ greatest_kappa_in text.now topo.now }
     ensures small { result < 2 ^ 68 }
 {
     let mut most = kappa(text, rate, own_text(text));

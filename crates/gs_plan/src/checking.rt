@@ -45,7 +45,8 @@ fn are_bad_delays(least: u32, greatest: u32) -> bool
 fn rate_of(text: &PlanText) -> Result<Rate, PlanFault>
     ensures numbers { IfOk result (HasNumbers text.now.lo text.now.hi text.now.mu) }
     ensures ok { OnOk result (rate_fault text.now.lo text.now.hi text.now.mu ≡ None) }
-    ensures err { IfErr result (λ e. option_map PlanFault.Rate (rate_fault text.now.lo text.now.hi text.now.mu) ≡ Some e) }
+    ensures err { IfErr result (λ e.
+        option_map PlanFault.Rate (rate_fault text.now.lo text.now.hi text.now.mu) ≡ Some e) }
 {
     match Rate::new(text.lo, text.hi, text.mu) {
         Ok(rate) => Ok(rate),
@@ -92,7 +93,8 @@ fn is_bad_span(version: Version, topo: &Topology, earlier: &[EdgeSpan], span: Ed
 #[tactic(auto, using(crate::proofs::Chain::spans))]
 fn check_spans(text: &PlanText, topo: &Topology) -> Result<(), PlanFault>
     ensures ok { OnOk result (span_fault text.now.version topo.now 0 [] text.now.spans ≡ None) }
-    ensures err { IfErr result (λ e. e ≢ PlanFault.OutOfMemory → span_fault text.now.version topo.now 0 [] text.now.spans ≡ Some e) }
+    ensures err { IfErr result (λ e. e ≢ PlanFault.OutOfMemory
+        → span_fault text.now.version topo.now 0 [] text.now.spans ≡ Some e) }
 {
     let version = text.version;
     let spans = text.spans.as_slice();

@@ -43,7 +43,8 @@ impl Levels {
     /// and that bound.
     pub(crate) fn best(&self, kappa: u64) -> (u32, u64)
         requires { 2 * self.now.last * kappa < 2 ^ 62 }
-        ensures { result ≡ best_of (λ s. 2 * s * kappa + bound_at self.now.first self.now.sigma self.now.r s) self.now.last }
+        ensures { result ≡ best_of
+            (λ s. 2 * s * kappa + bound_at self.now.first self.now.sigma self.now.r s) self.now.last }
     {
         let mut best = (0, self.skew(kappa, 0));
         for below in 0..self.last {

@@ -9,7 +9,6 @@ pub use plan::Plan;
 
 mod bounds;
 mod checking;
-mod copy;
 mod edge;
 mod fault;
 mod laws;

@@ -7,7 +7,6 @@ ghost use Rattle.gs_plan.specs.Sets.{graphs-prop, lengths-prop, numbers-prop};
 ghost use Rattle.gs_plan.specs.Kept.{AreGreatest, AreLevels, AreOwn, lengths_in};
 
 use crate::bounds::{global, greatest_kappa, lambda};
-use crate::copy::text_copy;
 use crate::edge::{EdgeNumbers, EdgeText, own_text};
 use crate::levels::Levels;
 use crate::numbers::{all_numbers, edge_numbers, iota, kappas};
@@ -26,8 +25,8 @@ pub struct Plan {
     own: EdgeNumbers,
     edges: Vec<EdgeNumbers>,
     weights: Weights,
-    /// The greatest kappa of all.
-    kappa: u64,
+    /// The greatest kappa of the plan and its edges.
+    greatest_kappa: u64,
     lambda: u64,
     iota: u64,
     levels: Levels,
@@ -37,7 +36,7 @@ pub struct Plan {
     ghost own_numbers: { AreOwn text own },
     ghost each: { edges.items ≡ numbers_of text topo } by { numbers-prop edges.items (numbers_of text topo) },
     ghost lengths: { weights ≡ lengths_in text topo } by { lengths-prop weights (lengths_in text topo) },
-    ghost greatest: { AreGreatest text topo kappa lambda iota },
+    ghost greatest: { AreGreatest text topo greatest_kappa lambda iota },
     ghost bounds: { AreLevels text topo levels },
 }
 
@@ -52,7 +51,8 @@ impl Plan {
     ghost use Rattle.gs_topo.specs.Walks.{IsLeast};
     ghost use Rattle.gs_plan.specs.Edges.{edge_texts, own_text};
     ghost use Rattle.gs_plan.specs.Numbers.{comp_in, delta_in, iota_in, jump_in, kappa_between, kappa_in};
-    ghost use Rattle.gs_plan.specs.Bounds.{best_in, best_edge_in, kappa_most, lambda_in, level_in, local_in};
+    ghost use Rattle.gs_plan.specs.Bounds.{best_in, best_edge_in, greatest_kappa_in, lambda_in};
+    ghost use Rattle.gs_plan.specs.Bounds.{level_in, local_in, skew_in};
 
     /// The plan of a text that has no fault.
     pub(crate) fn of(
@@ -72,7 +72,7 @@ impl Plan {
         let own = edge_numbers(text, rate, own_text(text));
         let numbers = all_numbers(alloc, text, rate, edges)?;
         let weights = Weights::new(alloc, &topo, &kappas(alloc, &numbers)?)?;
-        let kappa = greatest_kappa(text, rate, &topo, edges) as u64;
+        let greatest_kappa = greatest_kappa(text, rate, &topo, edges) as u64;
         let lambda = lambda(text, rate, &topo, edges) as u64;
         let iota = iota(text, rate) as u64;
         let levels = Levels {
@@ -82,13 +82,13 @@ impl Plan {
             last: text.levels,
         };
         Ok(Plan {
-            text: text_copy(alloc, text)?,
+            text: text.copy(alloc)?,
             rate,
             topo,
             own,
             edges: numbers,
             weights,
-            kappa,
+            greatest_kappa,
             lambda,
             iota,
             levels,
@@ -144,8 +144,8 @@ impl Plan {
         self.own.jump
     }
 
-    /// How far the maximum has to be ahead of the clock, in clock units, for a node that neither
-    /// trigger holds to be fast.
+    /// How far the maximum has to be ahead of the clock, in clock units, for a node to be fast where
+    /// neither trigger holds.
     pub fn iota(&self) -> u64
         ensures { result ≡ iota_in (text_of self.now) }
     {
@@ -161,9 +161,9 @@ impl Plan {
 
     /// The greatest kappa of the plan and its edges, in clock units.
     pub fn greatest_kappa(&self) -> u64
-        ensures { result ≡ kappa_most (text_of self.now) (graph_of self.now) }
+        ensures { result ≡ greatest_kappa_in (text_of self.now) (graph_of self.now) }
     {
-        self.kappa
+        self.greatest_kappa
     }
 
     /// The bound of level `s`, in clock units. Level 0 bounds the difference of any two clocks.
@@ -179,7 +179,7 @@ impl Plan {
         requires { s ≤ (text_of self.now).levels }
         ensures { result ≡ local_in (text_of self.now) (graph_of self.now) s }
     {
-        self.levels.skew(self.kappa, s)
+        self.levels.skew(self.greatest_kappa, s)
     }
 
     /// The first level whose bound for any edge is least, and that bound in clock units.
@@ -187,7 +187,7 @@ impl Plan {
         ensures value { result ≡ best_in (text_of self.now) (graph_of self.now) }
         ensures best { IsBest (local_in (text_of self.now) (graph_of self.now)) (text_of self.now).levels result }
     {
-        self.best_of(self.kappa)
+        self.best_of(self.greatest_kappa)
     }
 
     /// The numbers of the edge of this number.
@@ -202,8 +202,10 @@ impl Plan {
     /// units.
     pub fn best_edge(&self, e: u32) -> (u32, u64)
         requires { e < length (graph_of self.now).edges }
-        ensures { IfSome (slice_get (numbers_of (text_of self.now) (graph_of self.now)) e)
+        ensures value { IfSome (slice_get (numbers_of (text_of self.now) (graph_of self.now)) e)
             (λ edge. result ≡ best_edge_in (text_of self.now) (graph_of self.now) edge.kappa) }
+        ensures best { IfSome (slice_get (numbers_of (text_of self.now) (graph_of self.now)) e) (λ edge.
+            IsBest (skew_in (text_of self.now) (graph_of self.now) edge.kappa) (text_of self.now).levels result) }
     {
         self.best_of(self.edge(e).kappa)
     }
@@ -219,7 +221,8 @@ impl Plan {
     /// The least sum of the kappas of the edges of a walk from `v` to `w`, in clock units.
     pub fn weight(&self, v: u32, w: u32) -> u128
         requires { (v < (graph_of self.now).nodes) × (w < (graph_of self.now).nodes) }
-        ensures { IsLeast (Adjacent (graph_of self.now)) (graph_of self.now).nodes (kappa_between (text_of self.now)) v w result }
+        ensures { IsLeast (Adjacent (graph_of self.now)) (graph_of self.now).nodes
+            (kappa_between (text_of self.now)) v w result }
     {
         self.weights.weight(v, w)
     }
@@ -227,7 +230,8 @@ impl Plan {
     /// What node `v` is told before it runs: each of its links has the numbers of its edge.
     pub fn node(&self, alloc: Global, v: u32) -> Result<NodeParams, AllocError>
         requires { v < (graph_of self.now).nodes }
-        ensures value { IfOk result (λ params. params ≡ params_in (text_of self.now) (graph_of self.now) (rate_of self.now) v) }
+        ensures value { IfOk result (λ params.
+            params ≡ params_in (text_of self.now) (graph_of self.now) (rate_of self.now) v) }
         ensures valid { IfOk result AreValid }
     {
         Ok(NodeParams {
@@ -243,7 +247,8 @@ impl Plan {
     /// The links of `v` in ascending order of its neighbours.
     fn links(&self, alloc: Global, v: u32) -> Result<Vec<Link>, AllocError>
         requires { v < (graph_of self.now).nodes }
-        ensures { IfOk result (λ links. links.items ≡ map (link_in (text_of self.now) v) (neighbours_of (graph_of self.now) v)) }
+        ensures { IfOk result (λ links.
+            links.items ≡ map (link_in (text_of self.now) v) (neighbours_of (graph_of self.now) v)) }
     {
         let mut links = Vec::new(alloc);
         for x in self.topo.neighbours(v) {

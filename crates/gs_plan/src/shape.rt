@@ -81,7 +81,8 @@ fn add_rows(edges: &mut Vec<(u32, u32)>, rows: u32, cols: u32) -> Result<(), All
 #[tactic(auto, using(crate::proofs::Filling::rows))]
 fn add_all_columns(edges: &mut Vec<(u32, u32)>, rows: u32, cols: u32) -> Result<(), AllocError>
     requires { rows * cols ≤ 512 }
-    ensures { OnOk result (edges.new.items ≡ edges.old.items ++ flat_map (column_edges cols) (range_with_len 0 (rows - 1))) }
+    ensures { OnOk result (edges.new.items
+        ≡ edges.old.items ++ flat_map (column_edges cols) (range_with_len 0 (rows - 1))) }
 {
     for row in 0..rows.saturating_sub(1) {
         add_columns(edges, cols, row)?;

@@ -256,6 +256,29 @@ fn a_given_kappa_is_neither_low_nor_wide(rt: HostRuntime) {
 }
 
 #[test]
+fn each_fault_has_its_words(rt: HostRuntime) -> Result<(), Fail> {
+    for (fault, words) in [
+        (PlanFault::Rate(RateFault::Boost), "boost"),
+        (PlanFault::Topo(TopoFault::Loop(7)), "loop 7"),
+        (PlanFault::Tick, "tick"),
+        (PlanFault::Delay, "delay"),
+        (PlanFault::Span(12), "span 12"),
+        (PlanFault::Every, "every"),
+        (PlanFault::Losses, "losses"),
+        (PlanFault::Age, "age"),
+        (PlanFault::Levels, "levels"),
+        (PlanFault::Port, "port"),
+        (PlanFault::Weak, "weak"),
+        (PlanFault::Kappa, "kappa"),
+        (PlanFault::Wide, "wide"),
+        (PlanFault::OutOfMemory, ""),
+    ] {
+        assert_eq!(rt; fault.to_string(rt.alloc())?.as_str(), words);
+    }
+    Ok(())
+}
+
+#[test]
 fn the_earlier_fault_counts(rt: HostRuntime) {
     let alloc = rt.alloc();
     let mut old = base(alloc, 2);
