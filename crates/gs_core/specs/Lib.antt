@@ -3,3 +3,4 @@ pub mod Steps
 pub mod Replays
 pub mod State
 pub mod Seen
+pub mod Faults

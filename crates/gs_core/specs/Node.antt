@@ -14,8 +14,8 @@ use Rattle.gs_maximum.specs.declared.maximum.Max.{Max}
 use Rattle.gs_steer.specs.Modes.{mode_of}
 use Rattle.gs_trigger.specs.Sights.{Sight}
 
--- What a node keeps: the base of its clock, which is the clock `l` at the reading `at` in this mode; what it has heard of
--- the greatest clock; an entry for each neighbour; the sequence of its last beacon and the ticks since then; and the
+-- What a node keeps: the base of its clock, which is the clock `l` at the reading `at` in this mode; what it has heard
+-- of the greatest clock; an entry for each neighbour; the sequence of its last beacon and the ticks since then; and the
 -- greatest reading that it was given.
 pub record Node : Type 0 where
   pub l : ℕ
@@ -71,7 +71,13 @@ is_due p n = nat_le p.every (n.ticks + 1)
 abbrev pub beacon_of : NodeParams → Node → ℕ → Option Beacon
 beacon_of p n now =
     if is_due p n
-    then Some (record { cluster = p.cluster; sender = p.node; seq = n.seq + 1; l = clock_of p.rate n now; m = maximum_of p.rate n now })
+    then Some (record {
+      cluster = p.cluster;
+      sender = p.node;
+      seq = n.seq + 1;
+      l = clock_of p.rate n now;
+      m = maximum_of p.rate n now;
+    })
     else None
 
 -- rule 7: the node after a tick, which leaves what was heard of the greatest clock as it is
@@ -95,7 +101,8 @@ freshened rate link n i b now = record n {
 
 -- rule 8: the node after a beacon came over the link at place i
 abbrev pub heard : Rate → Link → Node → ℕ → Beacon → ℕ → Node
-heard rate link n i b now = if is_fresh (entry_at n.entries i) b.seq then freshened rate link n i b now else record n { last = now }
+heard rate link n i b now =
+    if is_fresh (entry_at n.entries i) b.seq then freshened rate link n i b now else record n { last = now }
 
 -- the place of the link to a node, and the link at a place
 abbrev pub link_place : NodeParams → ℕ → Option ℕ

@@ -9,7 +9,8 @@ use Rattle.gs_core.specs.declared.reply.CoreFault.{CoreFault}
 abbrev pub ReplayGoesOn : Type 0
 ReplayGoesOn = (p : NodeParams) (i : ℕ) (n m : Node) (es : List NodeEvent) (replies : List Reply) (e : NodeEvent)
     → replay p i n es ≡ Whole m replies
-    → replay p i n (es ++ e ∷ []) ≡ unless_fault (fault_of p m e) (i + length es) (Whole (after p m e) (replies ++ reply_of p m e ∷ []))
+    → replay p i n (es ++ e ∷ [])
+    ≡ unless_fault (fault_of p m e) (i + length es) (Whole (after p m e) (replies ++ reply_of p m e ∷ []))
 
 -- a replay that has stopped stays so, whatever comes later
 abbrev pub StoppedStays : Type 0

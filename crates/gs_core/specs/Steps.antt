@@ -1,4 +1,5 @@
 use Rattle.std.specs.Prelude.{ℕ, ◌+◌, ◌-◌, ◌^◌, ◌==◌, ◌||◌, ◌&&◌, not, Bool, false, nat_lt, nat_le, if◌then◌else◌, Option, Some, None, is_none, List, [], ◌∷◌}
+use Rattle.std.specs.Option.{option_or}
 use Rattle.gs_units.specs.declared.params.NodeParams.{NodeParams}
 use Rattle.gs_beacon.specs.declared.beacon.Beacon.{Beacon}
 use Rattle.gs_estimate.specs.Entries.{entry_at, answer_of}
@@ -32,20 +33,18 @@ or_fault test fault later = if test then Some fault else later
 abbrev pub reading_fault : NodeParams → Node → ℕ → Option CoreFault
 reading_fault p n now = or_fault (nat_lt now n.last) (Backward n.last now) (or_fault (is_past p n now) Far None)
 
--- why a tick is refused: the first that holds
+-- why a tick is refused: its reading is, or the last sequence was given and a beacon is due
 abbrev pub tick_fault : NodeParams → Node → ℕ → Option CoreFault
 tick_fault p n now =
-    or_fault (nat_lt now n.last) (Backward n.last now)
-    (or_fault (is_past p n now || (is_due p n && (n.seq == 2 ^ 64 - 1))) Far None)
+    option_or (reading_fault p n now) (or_fault (is_due p n && (n.seq == 2 ^ 64 - 1)) Far None)
 
--- why a delivery is refused: the first that holds
+-- why a delivery is refused: the beacon is of a stranger, its reading is refused, or what it tells is too far ahead
 abbrev pub deliver_fault : NodeParams → Node → Beacon → ℕ → Option CoreFault
 deliver_fault p n b now =
     or_fault (not (b.cluster == p.cluster)) Cluster
     (or_fault (is_none (link_place p b.sender)) (Stranger b.sender)
-    (or_fault (nat_lt now n.last) (Backward n.last now)
-    (or_fault (is_past p n now) Far
-    (or_fault (is_ahead p b (link_place p b.sender)) Ahead None))))
+    (option_or (reading_fault p n now)
+    (or_fault (is_ahead p b (link_place p b.sender)) Ahead None)))
 
 -- what a tick answers
 abbrev pub tick_reply : NodeParams → Node → ℕ → Ticked

@@ -1,6 +1,5 @@
-ghost use Rattle.std.specs.Prelude.{◌≡◌, ◌≢◌, ◌+◌, ◌<◌, ◌≤◌, ◌^◌, length, map, All, ◌||◌, nat_eq, nat_le, IfOk, IfErr, IfSome, OnOk, Ok, Err, Some, None};
+ghost use Rattle.std.specs.Prelude.{◌≡◌, ◌+◌, ◌<◌, ◌≤◌, ◌^◌, length, ◌||◌, nat_eq, nat_le, IfOk, IfErr, IfSome, OnOk, Ok, Err, Some, None};
 ghost use Rattle.std.specs.List.{position, zip};
-ghost use Rattle.std.specs.List.Sorted.{IsStrictlyIncreasing};
 ghost use Rattle.gs_units.specs.Params.{AreValid, IsSound};
 ghost use Rattle.gs_beacon.specs.Beacons.{IsBeacon};
 ghost use Rattle.gs_estimate.specs.Entries.{answer_of, entry_at};
@@ -53,7 +52,10 @@ impl Core {
         requires clock { l0 < END }
         ensures { IfOk result (λ core. core ≡ record { params = params; node = started params hw l0 }) }
     {
-        let count = count(params.links.as_slice(), params.node);
+        // No memory holds 2^32 links.
+        let Ok(count) = u32::try_from(params.links.as_slice().len()) else {
+            return Err(AllocError);
+        };
         let slots = Slots::new(alloc, count, l0, hw)?;
         let offsets = vec![in alloc; 0; count as usize]?;
         Ok(Core {
@@ -140,7 +142,8 @@ impl Core {
     pub fn deliver(&mut self, beacon: &Beacon, now: u64) -> Result<Heard, CoreFault>
         requires { IsBeacon beacon.now }
         ensures ok { IfOk result (Delivers self.old self.new beacon.now now) }
-        ensures err { IfErr result (Refuses self.old self.new (deliver_fault self.old.params self.old.node beacon.now now)) }
+        ensures err { IfErr result
+            (Refuses self.old self.new (deliver_fault self.old.params self.old.node beacon.now now)) }
     {
         let i = self.admit(beacon, now)?;
         Ok(self.hear(i, beacon, now))
@@ -253,30 +256,6 @@ impl Core {
         }
         self.last = now;
         answer
-    }
-}
-
-/// How many links a node has.
-fn count(links: &[Link], node: u32) -> u32
-    requires ascending { IsStrictlyIncreasing (map (λ link. link.node) links.now) }
-    requires others { All (λ link. link.node ≢ node) links.now }
-    ensures { result ≡ length links.now }
-{
-    let greatest = greatest(links, node);
-    prove!(links.len() <= greatest as usize);
-    links.len() as u32
-}
-
-/// The greatest number among a node and its neighbours. No two of these are equal, so there are no more
-/// neighbours than that.
-fn greatest(links: &[Link], node: u32) -> u32
-    requires ascending { IsStrictlyIncreasing (map (λ link. link.node) links.now) }
-    requires others { All (λ link. link.node ≢ node) links.now }
-    ensures { length links.now ≤ result }
-{
-    match links.last() {
-        Some(link) => link.node.max(node),
-        None => node,
     }
 }
 

@@ -1,5 +1,7 @@
 use gs_beacon::Beacon;
 use gs_units::Mode;
+use std::error::Error;
+use std::fmt;
 
 /// What a tick answers.
 #[derive(Clone, Copy, Debug, PartialEq, Eq)]
@@ -19,7 +21,7 @@ pub struct Ticked {
 pub enum CoreFault {
     /// The beacon is of another cluster.
     Cluster,
-    /// The beacon is of this node, and it is no neighbour.
+    /// Its sender, this node, is no neighbour.
     Stranger(u32),
     /// The reading is below one that the node was given before.
     Backward { last: u64, now: u64 },
@@ -29,3 +31,22 @@ pub enum CoreFault {
     /// What the beacon tells reaches `END` when it is raised for its way.
     Ahead,
 }
+
+impl fmt::Display for CoreFault {
+    ghost use Rattle.std.specs.Prelude.{Some};
+    ghost use Rattle.gs_core.specs.Faults.{why_of};
+
+    ghost output = { λ fault. Some (why_of fault) };
+
+    fn fmt<W: fmt::Write>(&self, f: &mut fmt::Formatter<W>) -> fmt::Result {
+        match self {
+            CoreFault::Cluster => f.write_str("cluster"),
+            CoreFault::Stranger(sender) => write!(f, "stranger {sender}"),
+            CoreFault::Backward { last, now } => write!(f, "backward {last} {now}"),
+            CoreFault::Far => f.write_str("far"),
+            CoreFault::Ahead => f.write_str("ahead"),
+        }
+    }
+}
+
+impl Error for CoreFault {}

@@ -8,7 +8,7 @@ use gs_units::{END, Link, Links, Mode, NodeParams, Rate};
 use std::alloc::{AllocError, Global};
 use std::test::Fail;
 
-/// Node 0 of a pair of nodes in cluster 7, which sends a beacon at each tick of this number.
+/// Node 0 of a pair of nodes in cluster 7, which sends a beacon at every `every`-th tick.
 fn pair(alloc: Global, rate: Rate, every: u32) -> Result<NodeParams, AllocError>
     requires { 1 ≤ every }
     ensures valid { IfOk result AreValid }
@@ -196,5 +196,24 @@ fn a_copy_goes_on_alike(rt: HostRuntime) -> Result<(), Fail> {
 fn increments_keep_their_order(rt: HostRuntime) -> Result<(), Fail> {
     let incs = Incs::from_vec([10_001, 10_000].to_vec(rt.alloc())?);
     assert_eq!(rt; incs.as_slice(), [10_001, 10_000].as_slice());
+    Ok(())
+}
+
+#[test]
+fn faults_have_their_words(rt: HostRuntime) -> Result<(), Fail> {
+    let fell = CoreFault::Backward {
+        last: 1_000,
+        now: 999,
+    };
+    for (fault, words) in [
+        (CoreFault::Cluster, "cluster"),
+        (CoreFault::Stranger(4_294_967_295), "stranger 4294967295"),
+        (fell, "backward 1000 999"),
+        (CoreFault::Far, "far"),
+        (CoreFault::Ahead, "ahead"),
+    ] {
+        let text = fault.to_string(rt.alloc())?;
+        assert_eq!(rt; text.as_str(), words);
+    }
     Ok(())
 }
