@@ -12,7 +12,7 @@ use Rattle.gs_topo.proofs.Tables.{at_most_diameter}
 use Rattle.gs_topo.proofs.Walks.{sum_is_small}
 use Rattle.gs_planfile.specs.declared.text.PlanText.{PlanText}
 use Rattle.gs_plan.specs.Accepted.{IsAccepted}
-use Rattle.gs_plan.specs.Bounds.{kappa_most}
+use Rattle.gs_plan.specs.Bounds.{greatest_kappa_in}
 use Rattle.gs_plan.specs.Edges.{edge_texts, own_text}
 use Rattle.gs_plan.specs.Numbers.{kappa_between, kappa_in}
 use Rattle.gs_plan.proofs.Keeping.{each_below}
@@ -61,21 +61,21 @@ walk-from_has_sum adj n k (suc steps) v w d has = elim (or_cases _ _ has) [
 ]
 
 -- The least sum that some walk has is the least of all, and at most the greatest kappa for each step of the distance.
-pub weight_is_least : (t : PlanText) (g : Graph) → IsGraph g → ((v w : ℕ) → Adjacent g v w → 1 ≤ kappa_between t v w) → ((v w : ℕ) → Adjacent g v w → kappa_between t v w ≤ kappa_most t g)
+pub weight_is_least : (t : PlanText) (g : Graph) → IsGraph g → ((v w : ℕ) → Adjacent g v w → 1 ≤ kappa_between t v w) → ((v w : ℕ) → Adjacent g v w → kappa_between t v w ≤ greatest_kappa_in t g)
     → (v w : ℕ) → v < g.nodes → w < g.nodes
-    → IsLeast (Adjacent g) g.nodes (kappa_between t) v w (weight_in t g v w) × (weight_in t g v w ≤ kappa_most t g * distance_of g v w)
+    → IsLeast (Adjacent g) g.nodes (kappa_between t) v w (weight_in t g v w) × (weight_in t g v w ≤ greatest_kappa_in t g * distance_of g v w)
 unfolding weight_in
 weight_is_least t g is positive most v w hv hw =
     let k : ℕ → ℕ → ℕ = kappa_between t in
     let least = is_least g is.connected v w hv hw in
     let walk = least.some in
     let near = at_most_diameter g v w hv hw in
-    let high : ℕ = diameter_of g * kappa_most t g in
-    let short : length_of k v walk.0 ≤ kappa_most t g * length_of one_each v walk.0 =
-    sum_is_small (Adjacent g) g.nodes k one_each (kappa_most t g) (λ a b ha hb next. let m = most a b next in omega (arith, m)) v w walk.0 hv walk.1 in
-    let short_sum : (d : ℕ) → d ≤ length_of k v walk.0 → d ≤ kappa_most t g * length_of one_each v walk.0 = λ d low. omega (arith, low, short) in
+    let high : ℕ = diameter_of g * greatest_kappa_in t g in
+    let short : length_of k v walk.0 ≤ greatest_kappa_in t g * length_of one_each v walk.0 =
+    sum_is_small (Adjacent g) g.nodes k one_each (greatest_kappa_in t g) (λ a b ha hb next. let m = most a b next in omega (arith, m)) v w walk.0 hv walk.1 in
+    let short_sum : (d : ℕ) → d ≤ length_of k v walk.0 → d ≤ greatest_kappa_in t g * length_of one_each v walk.0 = λ d low. omega (arith, low, short) in
     let steps : length_of one_each v walk.0 ≤ diameter_of g = omega (arith, walk.2, near) in
-    let less : kappa_most t g * length_of one_each v walk.0 ≤ kappa_most t g * diameter_of g = mul-le-mul_left (kappa_most t g) steps in
+    let less : greatest_kappa_in t g * length_of one_each v walk.0 ≤ greatest_kappa_in t g * diameter_of g = mul-le-mul_left (greatest_kappa_in t g) steps in
     let test : ℕ → Bool = λ d. has_sum (adjacent g) g.nodes k d v w d in
     let found : (xs : List ℕ) → IsWalk (Adjacent g) g.nodes v xs w → test (length_of k v xs) ≡ true =
     λ xs other. has_sum-from_walk (adjacent g) g.nodes k positive (length_of k v xs) v w xs other (omega arith) in
@@ -94,7 +94,7 @@ weight_is_least t g is positive most v w hv hw =
     )
 
 -- the kappa of neighbours in an accepted plan
-pub kappa_of_neighbours : (t : PlanText) (g : Graph) → IsAccepted t g → (v w : ℕ) → Adjacent g v w → (1 ≤ kappa_between t v w) × (kappa_between t v w ≤ kappa_most t g)
+pub kappa_of_neighbours : (t : PlanText) (g : Graph) → IsAccepted t g → (v w : ℕ) → Adjacent g v w → (1 ≤ kappa_between t v w) × (kappa_between t v w ≤ greatest_kappa_in t g)
 kappa_of_neighbours t g is v w next =
     let found = has_number g v w next in
     let at = text_at t g v w found.0 (own_text t) found.1 in

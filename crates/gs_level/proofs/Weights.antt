@@ -11,7 +11,7 @@ use Rattle.gs_topo.proofs.Distances.{both_ways, is_below}
 use Rattle.gs_topo.proofs.Weighing.{least_sums_weigh}
 use Rattle.gs_planfile.specs.declared.text.PlanText.{PlanText}
 use Rattle.gs_plan.specs.declared.plan.Plan.{Plan}
-use Rattle.gs_plan.specs.Bounds.{kappa_most}
+use Rattle.gs_plan.specs.Bounds.{greatest_kappa_in}
 use Rattle.gs_plan.specs.Numbers.{kappa_between, kappa_in, numbers_in, numbers_of}
 use Rattle.gs_plan.specs.Plans.{graph_of, text_of}
 use Rattle.gs_plan.specs.declared.edge.EdgeNumbers.{EdgeNumbers}
@@ -29,7 +29,7 @@ use Rattle.gs_level.proofs.Sums.{kappa_of_neighbours, one_least, weight_is_least
 -- the weight is the least sum of every pair, at most the greatest kappa for each step of the distance
 pub least_in_plan : (p : Plan) (v w : ℕ) → v < (graph_of p).nodes → w < (graph_of p).nodes
     → IsLeast (Adjacent (graph_of p)) (graph_of p).nodes (kappa_between (text_of p)) v w (weight_in (text_of p) (graph_of p) v w)
-    × (weight_in (text_of p) (graph_of p) v w ≤ kappa_most (text_of p) (graph_of p) * distance_of (graph_of p) v w)
+    × (weight_in (text_of p) (graph_of p) v w ≤ greatest_kappa_in (text_of p) (graph_of p) * distance_of (graph_of p) v w)
 least_in_plan p v w hv hw =
     let is = plan_accepted p.text p.topo p.accepted p.graph in
     weight_is_least p.text p.topo (plan_is_graph p.text p.topo p.accepted p.graph)
@@ -49,7 +49,7 @@ weight_fits p v w hv hw =
     let is = plan_is_graph p.text p.topo p.accepted p.graph in
     let few = is.few in
     let steps = is_below p.topo is.connected v w hv hw in
-    let some : kappa_most p.text p.topo * distance_of p.topo v w ≤ kappa_most p.text p.topo * 512 = mul-le-mul_left (kappa_most p.text p.topo) (omega (arith, steps, few)) in
+    let some : greatest_kappa_in p.text p.topo * distance_of p.topo v w ≤ greatest_kappa_in p.text p.topo * 512 = mul-le-mul_left (greatest_kappa_in p.text p.topo) (omega (arith, steps, few)) in
     omega (arith, most, kappa, some)
 
 -- the graph of a plan is that of a topology

@@ -8,11 +8,15 @@ use Rattle.gs_level.specs.declared.report.Report.{Report}
 
 -- a text and then the line of what was played
 abbrev pub with_size : List ℕ → Graph → ℕ → List ℕ
-with_size text g quanta = text ++ codes "nodes " ++ decimal g.nodes ++ codes " edges " ++ decimal (length g.edges) ++ codes " quanta " ++ decimal quanta ++ 10 ∷ []
+with_size text g quanta =
+    text ++ codes "nodes " ++ decimal g.nodes ++ codes " edges " ++ decimal (length g.edges)
+    ++ codes " quanta " ++ decimal quanta ++ 10 ∷ []
 
 -- the line of the global skew
 abbrev pub with_global : List ℕ → PlanText → Graph → ℕ → ℕ → List ℕ
-with_global text t g skew at = text ++ codes "global " ++ decimal skew ++ codes " at " ++ decimal at ++ codes " bound " ++ decimal (global_in t g) ++ 10 ∷ []
+with_global text t g skew at =
+    text ++ codes "global " ++ decimal skew ++ codes " at " ++ decimal at
+    ++ codes " bound " ++ decimal (global_in t g) ++ 10 ∷ []
 
 -- the words of an edge, or that there is none
 abbrev pub with_edge : List ℕ → Option (ℕ × ℕ) → List ℕ
@@ -21,16 +25,19 @@ with_edge text (Some e) = text ++ codes " edge " ++ decimal e.0 ++ codes " " ++ 
 
 -- the words of the plan's best level and its bound
 abbrev pub with_best : List ℕ → PlanText → Graph → List ℕ
-with_best text t g = text ++ codes " bound " ++ decimal (best_in t g).1 ++ codes " level " ++ decimal (best_in t g).0 ++ 10 ∷ []
+with_best text t g =
+    text ++ codes " bound " ++ decimal (best_in t g).1 ++ codes " level " ++ decimal (best_in t g).0 ++ 10 ∷ []
 
 -- the line of the neighbour skew
 abbrev pub with_near : List ℕ → PlanText → Graph → ℕ → ℕ → Option (ℕ × ℕ) → List ℕ
-with_near text t g skew at edge = with_best (with_edge (text ++ codes "neighbour " ++ decimal skew ++ codes " at " ++ decimal at) edge) t g
+with_near text t g skew at edge =
+    with_best (with_edge (text ++ codes "neighbour " ++ decimal skew ++ codes " at " ++ decimal at) edge) t g
 
 -- the line of the potential of level s
 abbrev pub with_level : List ℕ → PlanText → Graph → ℕ → Peak → List ℕ
 with_level text t g s peak =
-    text ++ codes "level " ++ decimal s ++ codes " potential " ++ decimal peak.value ++ codes " pair " ++ decimal peak.v ++ codes " " ++ decimal peak.w
+    text ++ codes "level " ++ decimal s ++ codes " potential " ++ decimal peak.value ++ codes " pair "
+    ++ decimal peak.v ++ codes " " ++ decimal peak.w
     ++ codes " bound " ++ decimal (level_in t g s) ++ 10 ∷ []
 
 -- the lines of these potentials, from level s on
@@ -46,5 +53,6 @@ with_fast text fast = text ++ codes "fast " ++ decimal fast ++ 10 ∷ []
 abbrev pub report_text : PlanText → Graph → Report → List ℕ
 report_text t g r =
     with_fast
-    (with_levels (with_near (with_global (with_size [] g r.quanta) t g r.global r.global_at) t g r.near r.near_at r.near_edge) t g 0 r.levels)
+    (with_levels (with_near (with_global (with_size [] g r.quanta) t g r.global r.global_at) t g r.near r.near_at
+    r.near_edge) t g 0 r.levels)
     r.fast

@@ -16,7 +16,8 @@ first_place f rows = position_or_len (λ row. f row == greatest_over f rows) row
 -- the first edge with the greatest difference of all rows, in the first row that has it
 abbrev pub first_edge : List (ℕ × ℕ) → List (List ℕ) → Option (ℕ × ℕ)
 first_edge edges rows =
-    find (λ e. edge_skew (slice_index_or rows (first_place (near_skew edges) rows) []) e == greatest_over (near_skew edges) rows) edges
+    find (λ e. edge_skew (slice_index_or rows (first_place (near_skew edges) rows) []) e
+    == greatest_over (near_skew edges) rows) edges
 
 -- there is such an edge exactly where there is an edge
 abbrev pub EdgesAreNamed : Type 0

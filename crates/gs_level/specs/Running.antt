@@ -20,15 +20,21 @@ pairs_from n v = map (λ w. (v, w)) (range_with_len 0 n)
 
 -- a tally, with the global skew of one more row where it is greater
 unfoldable pub raised_global : Tally → ℕ → Tally
-raised_global tally skew = if nat_lt tally.global skew then record tally { global = skew; global_at = tally.rows } else tally
+raised_global tally skew =
+    if nat_lt tally.global skew then record tally { global = skew; global_at = tally.rows } else tally
 
 -- the same with the neighbour skew and its first edge
 unfoldable pub raised_near : List (ℕ × ℕ) → Tally → List ℕ → Tally
 raised_near edges tally clocks =
     if nat_lt tally.near (near_skew edges clocks)
-    then record tally { near = near_skew edges clocks; near_at = tally.rows; near_edge = find (λ e. edge_skew clocks e == near_skew edges clocks) edges }
+    then record tally {
+      near = near_skew edges clocks;
+      near_at = tally.rows;
+      near_edge = find (λ e. edge_skew clocks e == near_skew edges clocks) edges;
+    }
     else tally
 
 -- a tally with one more row
 unfoldable pub added : Graph → Tally → List ℕ → Tally
-added g tally clocks = record (raised_near g.edges (raised_global tally (global_skew clocks)) clocks) { rows = tally.rows + 1 }
+added g tally clocks =
+    record (raised_near g.edges (raised_global tally (global_skew clocks)) clocks) { rows = tally.rows + 1 }

@@ -14,7 +14,8 @@ one_between v w = if v == w then 0 else 1
 abbrev pub two_rows : ℕ → ℕ → ℕ
 two_rows t v = if t == 0 then 0 else if v == 0 then 2 else 3
 
--- Clocks add at least lo = 1, drift apart by r = 1 and catch up at q = 1. At the end node 0 is in the fast condition of level 1.
+-- Clocks add at least lo = 1, drift apart by r = 1 and catch up at q = 1. At the end node 0 is in the fast condition of
+-- level 1.
 pub record IsWorkedNetwork : Type 0 where
   pub network : IsSteeredNetwork 2 1 two_apart (λ v w. 1) one_between two_rows 1 1 1 1
   pub behind : IsBehind 2 (λ a b. IsTrue (two_apart a b)) (λ a b. 1) (two_rows 1) 0

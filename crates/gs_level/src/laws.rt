@@ -5,10 +5,10 @@ ghost use Rattle.gs_level.specs.Weight.{WeightsAreLeastSums, WeightsFitKappas};
 ghost use Rattle.gs_level.specs.Worked.{IsWorkedNetwork};
 
 /// Steered clocks keep the bounds of all levels, at every moment: from equal clocks that never differ
-/// by more than `G(0)`, the clocks of a pair stay within `2*s` times its weight and `G(s)`, and so the
-/// ends of an edge within `2*s` times its kappa and `G(s)`, for every level `s`. The law is about
-/// numbers alone: it takes rows of clocks, one row at the start and one at each quantum's end, and
-/// asks only how the clocks of a row grew. Weights and clocks are in clock units.
+/// by more than `G(0)`, the clocks of a pair v, w stay within `2*s*Weight(v, w) + G(s)`, and so the ends
+/// of an edge e within `2*s*kappa(e) + G(s)`, for every level `s`. The law is about numbers alone: it
+/// takes rows of clocks, one row at the start and one at each quantum's end, and asks only how the
+/// clocks of a row grew. Weights and clocks are in clock units.
 ///
 /// The argument is in `docs/MODEL.md`, "Why it holds", steps 8 to 11. Its idea is that of Lenzen,
 /// Locher and Wattenhofer (JACM 2010) and of Kuhn, Lenzen, Locher and Oshman (PODC 2010).

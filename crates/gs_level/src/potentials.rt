@@ -19,8 +19,8 @@ const NOTHING: Peak = Peak {
     w: 0,
 };
 
-/// The potential of level `s`: how far one clock is ahead of another beyond `2*s` times the weight of
-/// the two nodes, at most over all pairs, in clock units, with the first pair that has it.
+/// The potential of level `s`: the greatest, over all pairs, of how far one clock is ahead of the other
+/// beyond `2*s` times the weight of the pair, in clock units, with the first pair that has it.
 /// Where no two clocks differ by more than `2*s` times the least kappa, it is 0 without a look at the
 /// pairs.
 pub fn potential(plan: &Plan, clocks: &[u64], s: u32) -> Peak
@@ -111,7 +111,8 @@ fn less(lead: u64, s: u32, weight: u128) -> u64
 /// The potentials of the plan's levels.
 pub(crate) fn peaks(alloc: Global, plan: &Plan, clocks: &[u64]) -> Result<Peaks, AllocError>
     requires { length clocks.now ≡ (graph_of plan.now).nodes }
-    ensures { IfOk result (λ peaks. peaks ≡ peaks_of (text_of plan.now) (graph_of plan.now) clocks.now (text_of plan.now).levels) }
+    ensures { IfOk result
+        (λ peaks. peaks ≡ peaks_of (text_of plan.now) (graph_of plan.now) clocks.now (text_of plan.now).levels) }
 {
     let last = plan.text().levels;
     let mut peaks = Vec::new(alloc);

@@ -33,7 +33,8 @@ impl ClockRange {
     /// The greatest difference of two of the clocks.
     pub fn width(&self) -> u64
         ensures value { result ≡ self.now.greatest - self.now.least }
-        ensures skew { (clocks : List ℕ) → AreEnds clocks self.now.least self.now.greatest → result ≡ global_skew clocks }
+        ensures skew { (clocks : List ℕ) → AreEnds clocks self.now.least self.now.greatest
+            → result ≡ global_skew clocks }
     {
         self.greatest.saturating_sub(self.least)
     }

@@ -66,7 +66,8 @@ impl Tally {
     ) -> Result<Report, AllocError>
         requires { length clocks.now ≡ (graph_of plan.now).nodes }
         ensures value { (before : List (List ℕ)) → self.now ≡ tally_of (graph_of plan.now) (before ++ clocks.now ∷ [])
-            → IfOk result (λ report. report ≡ report_of (text_of plan.now) (graph_of plan.now) (before ++ clocks.now ∷ []) fast) }
+            → IfOk result
+            (λ report. report ≡ report_of (text_of plan.now) (graph_of plan.now) (before ++ clocks.now ∷ []) fast) }
         ensures levels { IfOk result (λ report. length report.levels ≡ (text_of plan.now).levels + 1) }
     {
         Ok(Report {
