@@ -2,9 +2,8 @@
 use Rattle.std.proofs.Common.{◌≡◌, ℕ, suc, ◌+◌, ◌-◌, ◌*◌, ◌<◌, ◌≤◌, arith, sym, pos, neg_ℤ, ◌≤ℤ◌, ◌-ℤ◌, List, length, slice_index_or, All, Any, subst}
 use Rattle.std.proofs.lemmas.Int.{ints}
 use Rattle.std.proofs.lemmas.List.Elements.{Contains-get_or}
-use Rattle.gs_trigger.specs.Sights.{Sight, AreWide}
-use Rattle.gs_trigger.specs.Triggers.{odd_level, even_level, FastAt, SlowAt}
-use Rattle.gs_trigger.proofs.Distances.{above_level, even_is}
+use Rattle.gs_trigger.specs.Sights.{Sight, HaveMargins}
+use Rattle.gs_trigger.specs.Triggers.{odd_level, even_level, FastAt, SlowAt, IsFarAhead, IsNotTooFarBehind, IsFarBehind, IsNotTooFarAhead}
 use Rattle.gs_trigger.proofs.Apart.{not_fast_in_front, not_slow_at_the_back}
 use Rattle.gs_level.specs.Conditions.{IsAhead, IsBehind}
 use Rattle.gs_world.specs.Net.{Net, Adjacent, neighbours, neighbour, link_of, delta_of}
@@ -15,14 +14,14 @@ use Rattle.gs_world.proofs.Rows.{Grows}
 use Rattle.gs_world.proofs.Estimates.{IsWithin, estimate_is_close, within_budget}
 
 -- the offset of an estimate e to the clock l
-ahead_by : (c d e l : ℕ) → d ≤ c → l + c ≤ e + d → pos (c - d) ≤ℤ (pos e -ℤ pos l)
-ahead_by c d e l le h = omega (arith, ints, le, h)
+ahead_by : (c d e l : ℕ) → l + c ≤ e + d → (pos c -ℤ pos d) ≤ℤ (pos e -ℤ pos l)
+ahead_by c d e l h = omega (arith, ints, h)
 
 not_behind : (c e l : ℕ) → l ≤ e + c → neg_ℤ (pos c) ≤ℤ (pos e -ℤ pos l)
 not_behind c e l h = omega (arith, ints, h)
 
-behind_by : (c d e l : ℕ) → d ≤ c → e + c ≤ l + d → (pos e -ℤ pos l) ≤ℤ neg_ℤ (pos (c - d))
-behind_by c d e l le h = omega (arith, ints, le, h)
+behind_by : (c d e l : ℕ) → e + c ≤ l + d → (pos e -ℤ pos l) ≤ℤ (pos d -ℤ pos c)
+behind_by c d e l h = omega (arith, ints, h)
 
 not_ahead : (c e l : ℕ) → e ≤ l + c → (pos e -ℤ pos l) ≤ℤ pos c
 not_ahead c e l h = omega (arith, ints, h)
@@ -91,40 +90,29 @@ some_seen net new v l x sights P seen hx next holds =
     (at.0, slice_index_or sights place.0 d, at.1, at.2, subst P (sym one.is) (here one.estimate one.within))
 
 -- links leave the margin that the triggers need
-pub seen_are_wide : (net : Net) (new : ℕ → ℕ) (v l : ℕ) (sights : List Sight) → AreNumbers net → AreSeen net new v l sights → AreWide sights
-seen_are_wide net new v l sights numbers seen =
+pub seen_have_margins : (net : Net) (new : ℕ → ℕ) (v l : ℕ) (sights : List Sight) → AreNumbers net → AreSeen net new v l sights → HaveMargins sights
+seen_have_margins net new v l sights numbers seen =
     all_seen net new v l sights (λ x. 2 * x.0.delta < x.0.kappa) seen (λ x e hx next within. numbers.margin v x next)
 
--- the distance of each level is above the margin
-pub odd_above : (net : Net) (v x s : ℕ) → AreNumbers net → Adjacent net v x → 1 ≤ s → s + delta_of net v x ≤ odd_level (net.kappa v x) s
-odd_above net v x s numbers next one = above_level (net.kappa v x) (delta_of net v x) s (numbers.margin v x next) one
-
-even_above : (net : Net) (v x s : ℕ) → AreNumbers net → Adjacent net v x → 1 ≤ s → s + 2 * delta_of net v x ≤ even_level (net.kappa v x) s
-even_above net v x s numbers next one =
-    let o = odd_above net v x s numbers next one in
-    let e = even_is (net.kappa v x) s one in
-    let m = numbers.margin v x next in
-    omega (arith, o, e, m)
-
 -- a node in the fast condition decided by a fast trigger of that level
-pub behind_is_fast : (net : Net) (new : ℕ → ℕ) (v l s : ℕ) (sights : List Sight) → AreNumbers net → AreSeen net new v l sights → 1 ≤ s
+pub behind_is_fast : (net : Net) (new : ℕ → ℕ) (v l s : ℕ) (sights : List Sight) → AreSeen net new v l sights
     → IsBehind net.nodes (Adjacent net) (λ a b. (2 * s - 1) * net.kappa a b) new v → FastAt sights s
-behind_is_fast net new v l s sights numbers seen one behind = (
-  some_seen net new v l behind.some.0 sights (λ x. pos (odd_level x.0.kappa s - x.0.delta) ≤ℤ x.1) seen behind.some.1 behind.some.2
+behind_is_fast net new v l s sights seen behind = (
+  some_seen net new v l behind.some.0 sights (IsFarAhead s) seen behind.some.1 behind.some.2
       (λ e within. ahead_by (odd_level (net.kappa v behind.some.0) s) (delta_of net v behind.some.0) e l
-      (let o = odd_above net v behind.some.0 s numbers behind.some.2 one in omega (arith, o)) (omega (arith, within.least, behind.some.3))),
-  all_seen net new v l sights (λ x. neg_ℤ (pos (odd_level x.0.kappa s + x.0.delta)) ≤ℤ x.1) seen
+      (omega (arith, within.least, behind.some.3))),
+  all_seen net new v l sights (IsNotTooFarBehind s) seen
       (λ x e hx next within. let b = behind.each x hx next in not_behind (odd_level (net.kappa v x) s + delta_of net v x) e l (omega (arith, b, within.least))),
 )
 
 -- and one in the slow condition by a slow one
-pub ahead_is_slow : (net : Net) (new : ℕ → ℕ) (v l s : ℕ) (sights : List Sight) → AreNumbers net → AreSeen net new v l sights → 1 ≤ s
+pub ahead_is_slow : (net : Net) (new : ℕ → ℕ) (v l s : ℕ) (sights : List Sight) → AreSeen net new v l sights
     → IsAhead net.nodes (Adjacent net) (λ a b. 2 * s * net.kappa a b) new v → SlowAt sights s
-ahead_is_slow net new v l s sights numbers seen one ahead = (
-  some_seen net new v l ahead.some.0 sights (λ x. x.1 ≤ℤ neg_ℤ (pos (even_level x.0.kappa s - x.0.delta))) seen ahead.some.1 ahead.some.2
+ahead_is_slow net new v l s sights seen ahead = (
+  some_seen net new v l ahead.some.0 sights (IsFarBehind s) seen ahead.some.1 ahead.some.2
       (λ e within. behind_by (even_level (net.kappa v ahead.some.0) s) (delta_of net v ahead.some.0) e l
-      (let o = even_above net v ahead.some.0 s numbers ahead.some.2 one in omega (arith, o)) (omega (arith, within.most, ahead.some.3))),
-  all_seen net new v l sights (λ x. x.1 ≤ℤ pos (even_level x.0.kappa s + x.0.delta)) seen
+      (omega (arith, within.most, ahead.some.3))),
+  all_seen net new v l sights (IsNotTooFarAhead s) seen
       (λ x e hx next within. let b = ahead.each x hx next in not_ahead (even_level (net.kappa v x) s + delta_of net v x) e l (omega (arith, b, within.most))),
 )
 
@@ -132,7 +120,7 @@ ahead_is_slow net new v l s sights numbers seen one ahead = (
 pub greatest_not_fast : (net : Net) (new : ℕ → ℕ) (v l s : ℕ) (sights : List Sight) → AreNumbers net → AreSeen net new v l sights
     → ((x : ℕ) → x < net.nodes → new x ≤ new v) → 1 ≤ s → ¬ FastAt sights s
 greatest_not_fast net new v l s sights numbers seen greatest one =
-    not_fast_in_front sights s (seen_are_wide net new v l sights numbers seen) one
+    not_fast_in_front sights s (seen_have_margins net new v l sights numbers seen) one
     (all_seen net new v l sights (λ y. y.1 ≤ℤ pos y.0.delta) seen
     (λ y e hy next within. let g = greatest y hy in not_ahead (delta_of net v y) e l (omega (arith, within.most, g))))
 
@@ -140,6 +128,6 @@ greatest_not_fast net new v l s sights numbers seen greatest one =
 pub least_not_slow : (net : Net) (new : ℕ → ℕ) (v l s : ℕ) (sights : List Sight) → AreNumbers net → AreSeen net new v l sights
     → ((x : ℕ) → x < net.nodes → new v ≤ new x) → 1 ≤ s → ¬ SlowAt sights s
 least_not_slow net new v l s sights numbers seen least one =
-    not_slow_at_the_back sights s (seen_are_wide net new v l sights numbers seen) one
+    not_slow_at_the_back sights s (seen_have_margins net new v l sights numbers seen) one
     (all_seen net new v l sights (λ y. neg_ℤ (pos y.0.delta) ≤ℤ y.1) seen
     (λ y e hy next within. let g = least y hy in not_behind (delta_of net v y) e l (omega (arith, within.least, g))))

@@ -1,14 +1,15 @@
 -- How close an estimate is to the true clock, when it is made and while a decision goes by it.
 use Rattle.std.proofs.Common.{◌≡◌, ℕ, suc, ◌+◌, ◌-◌, ◌*◌, ◌<◌, ◌≤◌, inl, inr, arith, ap, sym}
+use Rattle.gs_units.specs.Rates.{drift_of}
 use Rattle.gs_estimate.specs.EdgeError.{IsClose}
 use Rattle.gs_estimate.proofs.Closeness as closeness
-use Rattle.gs_world.specs.Net.{Net, spread_of, comp_of, drift_of, delta_of}
+use Rattle.gs_world.specs.Net.{Net, spread_of, comp_of, delta_of}
 use Rattle.gs_world.proofs.History.{Estimates}
 use Rattle.gs_world.proofs.Rows.{Grows, reading_growth, row_growth, row_reached}
 
 -- an estimate that v has of x is as close to this clock as the drift over the greatest age and the spread of their edge allow
 abbrev pub IsCloseOver : Net → ℕ → ℕ → ℕ → ℕ → Type 0
-IsCloseOver net v x estimate clock = IsClose (drift_of net * net.age) (spread_of net v x) estimate clock
+IsCloseOver net v x estimate clock = IsClose (drift_of net.rate * net.age) (spread_of net v x) estimate clock
 
 -- an estimate that a beacon gave
 pub beacon_is_close : (net : Net) (last : ℕ) (row reading : ℕ → ℕ → ℕ) (v x t estimate : ℕ) → Grows net last row reading

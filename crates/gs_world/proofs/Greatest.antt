@@ -3,7 +3,7 @@
 use Rattle.std.proofs.Common.{◌≡◌, ℕ, zero, suc, ◌+◌, ◌-◌, ◌*◌, ◌<◌, ◌≤◌, inl, inr, arith, ◌∙◌, List, [], ◌∷◌, length, subst}
 use Rattle.std.proofs.Math.Nat.{mul-le-mul_left, mul-le-mul_right}
 use Rattle.std.proofs.lemmas.Bool.{cases_lt}
-use Rattle.gs_units.specs.Rates.{gap_of, g_of}
+use Rattle.gs_units.specs.Rates.{drift_of, r_of, g_of}
 use Rattle.gs_units.specs.declared.rate.Mode.TheVariants.{Slow, Fast}
 use Rattle.gs_topo.specs.Walks.{IsWalk}
 use Rattle.gs_estimate.proofs.Closeness.{growth-splits}
@@ -11,7 +11,7 @@ use Rattle.gs_maximum.specs.Lag.{Tells}
 use Rattle.gs_maximum.proofs.Telling.{hops_tell, earlier_is_told, lag_per_hop}
 use Rattle.gs_steer.proofs.Deciding.{slow_near_maximum, fast_far_behind}
 use Rattle.gs_level.proofs.Extremes.{greatest_below}
-use Rattle.gs_world.specs.Net.{Net, Adjacent, drift_of, iota_of, lambda_of, skew_of, spread_of}
+use Rattle.gs_world.specs.Net.{Net, Adjacent, iota_of, lambda_of, skew_of, spread_of}
 use Rattle.gs_world.specs.Accepted.{AreNumbers}
 use Rattle.gs_world.proofs.History.{IsHistory, IsEqual, Steers, Hears}
 use Rattle.gs_world.proofs.Rows.{Grows, row_since_least, row_since_most}
@@ -31,7 +31,7 @@ near_maximum net last row reading most grows t v ht hv greatest s =
     let x_least = row_since_least net last row reading grows x s.when (suc t) hx le ht in
     let v_most = row_since_most net last row reading grows v s.when (suc t) hv le ht in
     let splits = growth-splits net.rate k in
-    let gap : drift_of net * k ≤ drift_of net * net.tick = mul-le-mul_left (drift_of net) (omega (arith, s.recent)) in
+    let gap : drift_of net.rate * k ≤ drift_of net.rate * net.tick = mul-le-mul_left (drift_of net.rate) (omega (arith, s.recent)) in
     let g = greatest x hx in
     omega (arith, x_least, v_most, splits.clock, gap, g, s.reached.2)
 
@@ -180,7 +180,7 @@ least_keeps net last row reading most numbers h equal t u w ht hu hw least below
           rw e at (top_since net last row reading most numbers h equal s.when (s.m + lambda_of net) k (omega (arith, e, ht)) lags w hw) in
           let own = row_since_least net last row reading grows u s.when (suc t) hu le ht in
           let splits = growth-splits net.rate k in
-          let gap : gap_of net.rate * k ≤ gap_of net.rate * net.tick = mul-le-mul_left (gap_of net.rate) (omega (arith, s.recent)) in
+          let gap : r_of net.rate * k ≤ r_of net.rate * net.tick = mul-le-mul_left (r_of net.rate) (omega (arith, s.recent)) in
           omega (arith, top, own, splits.reading, gap, near)
       | inr far ↦
           let fast : s.mode ≡ Fast = s.decided ∙ fast_far_behind (iota_of net) s.m (row s.when u) s.sights

@@ -1,6 +1,6 @@
 -- The levels of a history from equal clocks: its clocks are rows that the two triggers steer, and keep the bound of each level.
 use Rattle.std.proofs.Common.{◌≡◌, ℕ, suc, ◌+◌, ◌-◌, ◌*◌, ◌<◌, ◌≤◌, arith, ◌∙◌}
-use Rattle.gs_units.specs.Rates.{gap_of, q_of}
+use Rattle.gs_units.specs.Rates.{r_of, q_of}
 use Rattle.gs_units.specs.declared.rate.Mode.TheVariants.{Slow, Fast}
 use Rattle.gs_topo.specs.Weights.{Weighs}
 use Rattle.gs_topo.proofs.Weighing.{least_sums_weigh}
@@ -12,7 +12,7 @@ use Rattle.gs_world.specs.Net.{Net, Adjacent, iota_of, skew_of, level_of}
 use Rattle.gs_world.specs.Accepted.{AreNumbers}
 use Rattle.gs_world.proofs.History.{IsHistory, IsEqual}
 use Rattle.gs_world.proofs.Steered.{history_grows, steered}
-use Rattle.gs_world.proofs.Conditions.{sights_are_seen, seen_are_wide, behind_is_fast, ahead_is_slow}
+use Rattle.gs_world.proofs.Conditions.{sights_are_seen, seen_have_margins, behind_is_fast, ahead_is_slow}
 use Rattle.gs_world.proofs.Greatest.{global_skew}
 
 -- a decision that may have seen entries of the start was made from equal clocks
@@ -27,28 +27,28 @@ behind_grows net last row reading most numbers h s t u one ht hu fair behind =
     let grows = history_grows net last row reading most h in
     let d = h.steers t u ht hu in
     let seen = sights_are_seen net last row reading grows t u d.when d.sights ht hu (fair d.when d.recent) d.before d.recent d.count d.sees in
-    let wide = seen_are_wide net (row (suc t)) u (row d.when u) d.sights numbers seen in
-    let fast : d.mode ≡ Fast = d.decided ∙ fast_by_trigger (iota_of net) d.m (row d.when u) s d.sights wide one
-    (behind_is_fast net (row (suc t)) u (row d.when u) s d.sights numbers seen one behind) in
+    let margins = seen_have_margins net (row (suc t)) u (row d.when u) d.sights numbers seen in
+    let fast : d.mode ≡ Fast = d.decided ∙ fast_by_trigger (iota_of net) d.m (row d.when u) s d.sights margins one
+    (behind_is_fast net (row (suc t)) u (row d.when u) s d.sights seen behind) in
     (steered net last row reading most h t u ht hu d).fast fast
 
 -- and one in the slow condition was slow
 pub ahead_grows : (net : Net) (last : ℕ) (row reading most : ℕ → ℕ → ℕ) → AreNumbers net → IsHistory net last row reading most → (s t w : ℕ) → 1 ≤ s
     → t < last → w < net.nodes → IsFair net row t w
-    → IsAhead net.nodes (Adjacent net) (λ a b. 2 * s * net.kappa a b) (row (suc t)) w → row (suc t) w ≤ row t w + (net.rate.lo + gap_of net.rate)
+    → IsAhead net.nodes (Adjacent net) (λ a b. 2 * s * net.kappa a b) (row (suc t)) w → row (suc t) w ≤ row t w + (net.rate.lo + r_of net.rate)
 ahead_grows net last row reading most numbers h s t w one ht hw fair ahead =
     let grows = history_grows net last row reading most h in
     let d = h.steers t w ht hw in
     let seen = sights_are_seen net last row reading grows t w d.when d.sights ht hw (fair d.when d.recent) d.before d.recent d.count d.sees in
-    let wide = seen_are_wide net (row (suc t)) w (row d.when w) d.sights numbers seen in
-    let slow : d.mode ≡ Slow = d.decided ∙ slow_by_trigger (iota_of net) d.m (row d.when w) s d.sights wide one
-    (ahead_is_slow net (row (suc t)) w (row d.when w) s d.sights numbers seen one ahead) in
+    let margins = seen_have_margins net (row (suc t)) w (row d.when w) d.sights numbers seen in
+    let slow : d.mode ≡ Slow = d.decided ∙ slow_by_trigger (iota_of net) d.m (row d.when w) s d.sights margins one
+    (ahead_is_slow net (row (suc t)) w (row d.when w) s d.sights seen ahead) in
     let grown = (steered net last row reading most h t w ht hw d).slow slow in
     omega (arith, grown, net.rate.accepted.above)
 
 -- The clocks of a history from equal clocks are rows that the two triggers steer.
 pub history_is_rows : (net : Net) (last : ℕ) (row reading most : ℕ → ℕ → ℕ) → AreNumbers net → IsHistory net last row reading most → IsEqual net row
-    → AreRows net.nodes last (Adjacent net) net.kappa row net.rate.lo (gap_of net.rate) (q_of net.rate) (skew_of net)
+    → AreRows net.nodes last (Adjacent net) net.kappa row net.rate.lo (r_of net.rate) (q_of net.rate) (skew_of net)
 history_is_rows net last row reading most numbers h equal =
     let grows = history_grows net last row reading most h in
     record {
@@ -71,7 +71,7 @@ pub history_keeps_levels : (net : Net) (last : ℕ) (row reading most : ℕ → 
     → IsEqual net row
     → (s t v w : ℕ) → t ≤ last → v < net.nodes → w < net.nodes → row t w ≤ row t v + 2 * s * net.weight v w + level_of net s
 history_keeps_levels net last row reading most numbers h equal s t v w ht hv hw =
-    keeps_bound net.nodes last (Adjacent net) net.kappa net.weight row net.rate.lo (gap_of net.rate) (q_of net.rate) (skew_of net)
+    keeps_bound net.nodes last (Adjacent net) net.kappa net.weight row net.rate.lo (r_of net.rate) (q_of net.rate) (skew_of net)
     (history_is_rows net last row reading most numbers h equal) (net_weighs net numbers)
     (omega (arith, net.rate.accepted.above)) (let strong = numbers.strong in omega (arith, strong)) s t v ht hv w hw
 

@@ -1,7 +1,7 @@
 -- The numbers of every plan, as the net that the laws of runs speak of, and what it tells a node.
 use Rattle.std.proofs.Common.{◌≡◌, ℕ, ◌+◌, ◌*◌, ◌/◌, ◌<◌, ◌≤◌, arith, refl, ap, subst, ◌∙◌, map, length, List, [], ◌∷◌, get_or}
 use Rattle.std.specs.Int.{div_ceil}
-use Rattle.gs_units.specs.Rates.{HasNumbers, gap_of, q_of}
+use Rattle.gs_units.specs.Rates.{HasNumbers, r_of, q_of}
 use Rattle.gs_units.specs.declared.params.Link.{Link}
 use Rattle.gs_units.specs.declared.params.NodeParams.{NodeParams}
 use Rattle.gs_units.specs.declared.rate.Rate.{Rate}
@@ -12,7 +12,7 @@ use Rattle.gs_topo.proofs.Tables.{at_most_diameter}
 use Rattle.gs_planfile.specs.declared.text.PlanText.{PlanText}
 use Rattle.gs_plan.specs.declared.edge.EdgeNumbers.{EdgeNumbers}
 use Rattle.gs_plan.specs.Accepted.{IsAccepted, IsFine}
-use Rattle.gs_plan.specs.Bounds.{spread_most}
+use Rattle.gs_plan.specs.Bounds.{global_in, lambda_in, level_in, greatest_spread_in}
 use Rattle.gs_plan.specs.Edges.{edge_text, edge_texts, own_text}
 use Rattle.gs_plan.specs.Nodes.{link_in}
 use Rattle.gs_plan.specs.Numbers.{delta_in, iota_in, kappa_in, numbers_in, q_in, r_in, spread_in}
@@ -22,9 +22,9 @@ use Rattle.gs_plan.proofs.Linking.{has_number, same_text, text_at}
 use Rattle.gs_plan.proofs.Telling.{plan_accepted, plan_is_graph}
 use Rattle.gs_level.proofs.Weights.{least_in_plan}
 use Rattle.gs_world.specs.Accepted.{PlansHaveNumbers}
-use Rattle.gs_world.specs.Net.{delta_of, iota_of, link_of, spread_of}
+use Rattle.gs_world.specs.Net.{delta_of, iota_of, lambda_of, level_of, link_of, skew_of, spread_of}
 use Rattle.gs_world.specs.Nets.{net_in, net_of}
-use Rattle.gs_world.specs.Told.{NodesAreTold}
+use Rattle.gs_world.specs.Told.{BoundsAreThePlans, NodesAreTold}
 
 -- ---- a net has the numbers of its plan
 
@@ -44,8 +44,21 @@ iota_is : (t : PlanText) (g : Graph) (rate : Rate) → HasNumbers t.lo t.hi t.mu
     → iota_of (net_in t g rate) ≡ iota_in t
 iota_is t g rate numbers = rw (numbers.hi, numbers.mu, numbers.lo) refl
 
+-- G(0), G(s) and the lag of a maximum
+pub skew_is : (t : PlanText) (g : Graph) (rate : Rate) → HasNumbers t.lo t.hi t.mu rate
+    → skew_of (net_in t g rate) ≡ global_in t g
+skew_is t g rate numbers = rw (numbers.hi, numbers.mu, numbers.lo) refl
+
+pub level_is : (t : PlanText) (g : Graph) (rate : Rate) (s : ℕ) → HasNumbers t.lo t.hi t.mu rate
+    → level_of (net_in t g rate) s ≡ level_in t g s
+level_is t g rate s numbers = rw (skew_is t g rate numbers, numbers.hi, numbers.mu, numbers.lo) refl
+
+lambda_is : (t : PlanText) (g : Graph) (rate : Rate) → HasNumbers t.lo t.hi t.mu rate
+    → lambda_of (net_in t g rate) ≡ lambda_in t g
+lambda_is t g rate numbers = rw (numbers.hi, numbers.lo) refl
+
 strong_is : (t : PlanText) (rate : Rate) → HasNumbers t.lo t.hi t.mu rate → 2 * r_in t ≤ q_in t
-    → 2 * gap_of rate ≤ q_of rate
+    → 2 * r_of rate ≤ q_of rate
 strong_is t rate numbers h = rw (numbers.hi, numbers.lo, numbers.mu) h
 
 -- ---- what holds of each edge holds of its two ends
@@ -66,12 +79,12 @@ in_age_between t g v w is next =
     subst (λ e. (numbers_in t e).delay_max ≤ t.age) here (is.in_age found.0 (own_text t) at.0)
 
 spread_between : (t : PlanText) (g : Graph) (v w : ℕ) → Adjacent g v w
-    → spread_in t (edge_text t (v, w)) ≤ spread_most t g
+    → spread_in t (edge_text t (v, w)) ≤ greatest_spread_in t g
 spread_between t g v w next =
     let found = has_number g v w next in
     let at = text_at t g v w found.0 (own_text t) found.1 in
     let here : get_or (edge_texts t g) found.0 (own_text t) ≡ edge_text t (v, w) = at.1 in
-    subst (λ e. spread_in t e ≤ spread_most t g) here (each_below (spread_in t) t g found.0 (own_text t) at.0)
+    subst (λ e. spread_in t e ≤ greatest_spread_in t g) here (each_below (spread_in t) t g found.0 (own_text t) at.0)
 
 -- ---- a walk of at most as many steps as the diameter
 
@@ -116,6 +129,19 @@ plan_has_numbers p =
       widest = λ v w next. rw (spread_is t g (rate_of p) v w numbers) (spread_between t g v w next);
       weights = λ v w hv hw. (least_in_plan p v w hv hw).0;
       diameter = short_walk g graph;
+    }
+
+-- the bounds of the net are the plan's
+pub bounds_are_the_plans : BoundsAreThePlans
+bounds_are_the_plans p =
+    let t : PlanText = text_of p in
+    let g : Graph = graph_of p in
+    record {
+      global = skew_is t g (rate_of p) p.rates;
+      levels = λ s. level_is t g (rate_of p) s p.rates;
+      lag = lambda_is t g (rate_of p) p.rates;
+      budget = λ v w. delta_is t g (rate_of p) v w p.rates;
+      kappa = λ v w. refl;
     }
 
 -- ---- what a plan tells a node

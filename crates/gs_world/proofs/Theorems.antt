@@ -1,6 +1,6 @@
 -- The bounds of every allowed run from equal clocks, at each quantum's end and at every moment.
 use Rattle.std.proofs.Common.{◌≡◌, ℕ, zero, suc, ◌+◌, ◌*◌, ◌<◌, ◌≤◌, arith, ap, ◌∙◌, refl, List, [], ◌∷◌, length, take, slice_index, subst}
-use Rattle.std.proofs.lemmas.List.{get_or-map, length-map}
+use Rattle.std.proofs.lemmas.List.{get_or_default, get_or-map, length-map}
 use Rattle.gs_core.specs.Node.{clock_of}
 use Rattle.gs_core.specs.declared.event.Event.{Event}
 use Rattle.gs_world.specs.Net.{Net, Adjacent, skew_of, level_of}
@@ -9,10 +9,11 @@ use Rattle.gs_world.specs.Run.{run, Allowed, later_ends, ends}
 use Rattle.gs_world.specs.Bounds.{Bounded, AreMaxima}
 use Rattle.gs_world.specs.Budget.{Watched}
 use Rattle.gs_world.specs.Accepted.{AreNumbers}
+use Rattle.gs_world.specs.Laws.{EndsAreBounded}
 use Rattle.gs_world.proofs.Pairs.{global_skew_within, potential_within, skew_between_within}
 use Rattle.gs_world.proofs.Greatest.{lag, global_skew as global_skew_kept}
 use Rattle.gs_world.proofs.Levels.{history_keeps_levels, history_keeps_edges}
-use Rattle.gs_world.proofs.Keeping.{world_at, Holds, run_watched}
+use Rattle.gs_world.proofs.Keeping.{nowhere, world_at, Holds, run_watched}
 use Rattle.gs_world.proofs.Current.{row_of, reading_of, most_of}
 use Rattle.gs_world.proofs.Dates.{maximum_reached}
 use Rattle.gs_world.proofs.Moments.{IsRun, start, run_grows, DatedInside, row_members, whole_run, run_of_watched, last_moment}
@@ -72,15 +73,14 @@ row_bounded {net} {hw} {clocks} {es} {total} {last} numbers same r w t ht member
     }
 
 -- The worlds of a report, at the start and at each quantum's end, are bounded.
-pub ends_bounded : (net : Net) (hw : List ℕ) (l0 : ℕ) (es : List Event) → AreNumbers net
-    → Allowed net (world_at_start net hw l0) es
-    → (t : ℕ) → t < length (ends net (world_at_start net hw l0) es)
-    → Bounded net (world_at (ends net (world_at_start net hw l0) es) t)
-ends_bounded net hw l0 es numbers allowed t ht =
+pub ends_bounded : EndsAreBounded
+ends_bounded net hw l0 es numbers allowed t d ht =
+    let total : List World = ends net (world_at_start net hw l0) es in
     let r = whole_run net (slice_index hw) (λ v. l0) es allowed in
     let inside : t ≤ length (later_ends net (world_at_start net hw l0) es) = omega arith in
-    row_bounded numbers (λ v w. refl) r (world_at (ends net (world_at_start net hw l0) es) t) t inside
-    (row_members numbers r t inside) (λ v hv. refl)
+    let bounded : Bounded net (world_at total t) =
+    row_bounded numbers (λ v w. refl) r (world_at total t) t inside (row_members numbers r t inside) (λ v hv. refl) in
+    subst (λ (w : World). Bounded net w) (get_or_default total t nowhere d ht) bounded
 
 -- So is the world at each moment, with its maxima.
 moment_bounded : {net : Net} {hw clocks : ℕ → ℕ} {es : List Event} {total : List World} {last : ℕ}

@@ -1,6 +1,6 @@
 -- What every plan gives, and what every start keeps to.
 use Rattle.std.specs.Prelude.{◌≡◌, ℕ, ◌*◌, ◌^◌, ◌<◌, ◌≤◌, List, length}
-use Rattle.gs_units.specs.Rates.{gap_of, q_of}
+use Rattle.gs_units.specs.Rates.{r_of, q_of}
 use Rattle.gs_topo.specs.Walks.{IsWalk, IsLeast}
 use Rattle.gs_plan.specs.declared.plan.Plan.{Plan}
 use Rattle.gs_world.specs.Net.{Net, Adjacent, spread_of, delta_of}
@@ -19,10 +19,12 @@ pub record AreNumbers (net : Net) : Type 0 where
   pub in_age : (v w : ℕ) → Adjacent net v w → net.latest v w ≤ net.age
   pub near : (v w : ℕ) → Adjacent net v w → net.latest v w ≤ 2 ^ 16
   pub margin : (v w : ℕ) → Adjacent net v w → 2 * delta_of net v w < net.kappa v w
-  pub strong : 2 * gap_of net.rate ≤ q_of net.rate
+  pub strong : 2 * r_of net.rate ≤ q_of net.rate
   pub widest : (v w : ℕ) → Adjacent net v w → spread_of net v w ≤ net.widest
-  pub weights : (v w : ℕ) → v < net.nodes → w < net.nodes → IsLeast (Adjacent net) net.nodes net.kappa v w (net.weight v w)
-  pub diameter : (v w : ℕ) → v < net.nodes → w < net.nodes → (xs : List ℕ) × IsWalk (Adjacent net) net.nodes v xs w × (length xs ≤ net.diameter)
+  pub weights : (v w : ℕ) → v < net.nodes → w < net.nodes
+      → IsLeast (Adjacent net) net.nodes net.kappa v w (net.weight v w)
+  pub diameter : (v w : ℕ) → v < net.nodes → w < net.nodes
+      → (xs : List ℕ) × IsWalk (Adjacent net) net.nodes v xs w × (length xs ≤ net.diameter)
 
 -- every plan has them
 abbrev pub PlansHaveNumbers : Type 0

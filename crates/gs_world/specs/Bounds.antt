@@ -4,12 +4,13 @@ use Rattle.gs_level.specs.Skews.{global_skew, potential, skew_between}
 use Rattle.gs_world.specs.Net.{Net, Adjacent, lambda_of, skew_of, level_of}
 use Rattle.gs_world.specs.World.{World, clock_in, clocks_in, maximum_in}
 
--- All clocks stay within G(0); at every level s the potential stays within G(s), and the ends of each edge within 2*s times
--- its kappa and G(s).
+-- All clocks stay within G(0); at every level s the potential stays within G(s), and the ends of each edge e within
+-- 2*s*kappa(e) + G(s).
 pub record Bounded (net : Net) (w : World) : Type 0 where
   pub global : global_skew (clocks_in net w) ≤ skew_of net
   pub levels : (s : ℕ) → potential net.weight (clocks_in net w) s ≤ level_of net s
-  pub edges : (s v x : ℕ) → v < net.nodes → x < net.nodes → Adjacent net v x → skew_between (clocks_in net w) v x ≤ 2 * s * net.kappa v x + level_of net s
+  pub edges : (s v x : ℕ) → v < net.nodes → x < net.nodes → Adjacent net v x
+      → skew_between (clocks_in net w) v x ≤ 2 * s * net.kappa v x + level_of net s
 
 -- What a node knows of the greatest clock: its maximum is at most some clock, and behind no clock by more than lambda.
 pub record AreMaxima (net : Net) (w : World) : Type 0 where

@@ -44,7 +44,8 @@ pub record IsNear (net : Net) (x : Watched) (v i : ℕ) (sight : Sight) : Type 0
   pub least : true_offset net x.world v (neighbour net v i) ≤ℤ (sight.1 +ℤ pos (delta_of net v (neighbour net v i)))
 
 abbrev pub AreNear : Net → Watched → Type 0
-AreNear net x = (v i : ℕ) (d : Sight) → v < net.nodes → i < length (neighbours net v) → IsNear net x v i (slice_index_or (decision x v).sights i d)
+AreNear net x = (v i : ℕ) (d : Sight) → v < net.nodes → i < length (neighbours net v)
+    → IsNear net x v i (slice_index_or (decision x v).sights i d)
 
 -- At the end of each quantum the offsets that the nodes last decided by are near.
 abbrev pub Budget : Net → Watched → List Event → Type 0

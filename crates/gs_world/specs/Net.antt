@@ -1,7 +1,8 @@
 -- What the world knows of a plan.
 use Rattle.std.specs.Prelude.{ℕ, ◌+◌, ◌-◌, ◌*◌, ◌/◌, Bool, IsTrue, nat_eq, List, filter, map, position, Option, slice_index}
 use Rattle.std.specs.List.{range_with_len}
-use Rattle.gs_units.specs.Rates.{g_of, gap_of, sigma_of, top_of}
+use Rattle.gs_units.specs.Delays.{delay_comp, delay_jump, delay_spread}
+use Rattle.gs_units.specs.Rates.{drift_of, g_of, r_of, sigma_of}
 use Rattle.gs_units.specs.declared.params.Link.{Link}
 use Rattle.gs_units.specs.declared.params.NodeParams.{NodeParams}
 use Rattle.gs_units.specs.declared.rate.Rate.{Rate}
@@ -31,27 +32,23 @@ Adjacent net v w = IsTrue (net.adjacent v w)
 
 -- how far the delays of an edge spread, in clock units
 abbrev pub spread_of : Net → ℕ → ℕ → ℕ
-spread_of net v w = net.rate.lo * (net.latest v w - net.soonest v w)
+spread_of net v w = delay_spread net.rate.lo (net.soonest v w) (net.latest v w)
 
 -- what a beacon's maximum is raised by for its way
 abbrev pub jump_of : Net → ℕ → ℕ → ℕ
-jump_of net v w = net.rate.lo * net.soonest v w
+jump_of net v w = delay_jump net.rate.lo (net.soonest v w)
 
 -- what a beacon's clock is raised by for its way
 abbrev pub comp_of : Net → ℕ → ℕ → ℕ
-comp_of net v w = jump_of net v w + spread_of net v w / 2
-
--- how far two logical clocks may drift apart in one quantum
-abbrev pub drift_of : Net → ℕ
-drift_of net = top_of net.rate - net.rate.lo
+comp_of net v w = delay_comp net.rate.lo (net.soonest v w) (net.latest v w)
 
 -- how far an offset may be off at the end of a quantum that uses it
 abbrev pub delta_of : Net → ℕ → ℕ → ℕ
-delta_of net v w = drift_of net * (net.age + net.tick) + (spread_of net v w + 1) / 2
+delta_of net v w = drift_of net.rate * (net.age + net.tick) + (spread_of net v w + 1) / 2
 
 -- how far ahead the maximum has to be for a node to be fast by itself
 abbrev pub iota_of : Net → ℕ
-iota_of net = drift_of net * net.tick + 1
+iota_of net = drift_of net.rate * net.tick + 1
 
 -- how far a maximum may lag behind the greatest clock
 abbrev pub lambda_of : Net → ℕ
@@ -59,11 +56,11 @@ lambda_of net = net.diameter * ((net.rate.hi - g_of net.rate) * net.age + net.wi
 
 -- G(0): the bound of the difference of any two clocks
 abbrev pub skew_of : Net → ℕ
-skew_of net = lambda_of net + iota_of net + gap_of net.rate * net.tick
+skew_of net = lambda_of net + iota_of net + r_of net.rate * net.tick
 
 -- G(s): the bound of level s
 abbrev pub level_of : Net → ℕ → ℕ
-level_of net s = bound_at (skew_of net) (sigma_of net.rate) (gap_of net.rate) s
+level_of net s = bound_at (skew_of net) (sigma_of net.rate) (r_of net.rate) s
 
 -- the neighbours of a node, ascending
 abbrev pub neighbours : Net → ℕ → List ℕ

@@ -3,7 +3,7 @@ use Rattle.gs_topo.specs.Graph.{Graph, adjacent}
 use Rattle.gs_topo.specs.Walks.{diameter_of}
 use Rattle.gs_units.specs.declared.rate.Rate.{Rate}
 use Rattle.gs_planfile.specs.declared.text.PlanText.{PlanText}
-use Rattle.gs_plan.specs.Bounds.{spread_most}
+use Rattle.gs_plan.specs.Bounds.{greatest_spread_in}
 use Rattle.gs_plan.specs.Edges.{edge_text}
 use Rattle.gs_plan.specs.Numbers.{kappa_between}
 use Rattle.gs_plan.specs.Plans.{text_of, graph_of, rate_of}
@@ -26,7 +26,7 @@ net_in t g rate = record {
   kappa = kappa_between t;
   weight = weight_in t g;
   diameter = diameter_of g;
-  widest = spread_most t g;
+  widest = greatest_spread_in t g;
 }
 
 abbrev pub net_of : Plan → Net

@@ -19,4 +19,5 @@ projection net v w (Quantum incs ∷ es) = projection net v (effect net w (Quant
 projection net v w (Tick u ∷ es) =
     (if u == v then own.Tick (member w v).reading ∷ [] else []) ++ projection net v (effect net w (Tick u)) es
 projection net v w (Deliver from to seq ∷ es) =
-    (if to == v then delivery_of (member w v).reading (sent_by w from seq) else []) ++ projection net v (effect net w (Deliver from to seq)) es
+    (if to == v then delivery_of (member w v).reading (sent_by w from seq) else [])
+    ++ projection net v (effect net w (Deliver from to seq)) es

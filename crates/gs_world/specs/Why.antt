@@ -70,4 +70,5 @@ why_deliver net w from to seq (Some i) = why_sent net w from to i (sent_by w fro
 abbrev pub why : Net → World → Event → Option Refused
 why net w (Quantum incs) = why_quantum net w incs
 why net w (Tick v) = refused_if (nat_le net.nodes v) Shape
-why net w (Deliver from to seq) = or_else (refused_if (nat_le net.nodes to) Shape) (why_deliver net w from to seq (place_of net to from))
+why net w (Deliver from to seq) =
+    or_else (refused_if (nat_le net.nodes to) Shape) (why_deliver net w from to seq (place_of net to from))

@@ -16,8 +16,8 @@ pub record Sent : Type 0 where
   pub beacon : Beacon
 
 -- What the world holds of one node: its hardware reading, its state, the quantum of its last tick, all beacons that it
--- ever sent, and for each neighbour, in ascending order, the quantum in which the newest beacon heard from it was sent, 0
--- at the start. The sequence of that beacon is the one that the node's entry keeps.
+-- ever sent, and for each neighbour, in ascending order, the quantum in which the newest beacon heard from it was sent,
+-- 0 at the start. The sequence of that beacon is the one that the node's entry keeps.
 pub record Member : Type 0 where
   pub reading : ℕ
   pub node : Node
@@ -34,7 +34,16 @@ pub record World : Type 0 where
 abbrev pub nobody : Member
 nobody = record {
   reading = 0;
-  node = record { l = 0; at = 0; mode = Slow; max = record { base = 0; at = 0 }; entries = []; seq = 0; ticks = 0; last = 0 };
+  node = record {
+    l = 0;
+    at = 0;
+    mode = Slow;
+    max = record { base = 0; at = 0 };
+    entries = [];
+    seq = 0;
+    ticks = 0;
+    last = 0;
+  };
   ticked_at = 0;
   sent = [];
   heard = [];
@@ -121,7 +130,10 @@ member_at_start net v hw l0 = record {
 
 -- rule 14: the world at its start, from a reading and a clock for each node
 abbrev pub world_from : Net → (ℕ → ℕ) → (ℕ → ℕ) → World
-world_from net hw clocks = record { quanta = 0; members = map (λ v. member_at_start net v (hw v) (clocks v)) (range_with_len 0 net.nodes) }
+world_from net hw clocks = record {
+  quanta = 0;
+  members = map (λ v. member_at_start net v (hw v) (clocks v)) (range_with_len 0 net.nodes);
+}
 
 -- from a list of readings and a list of clocks
 abbrev pub world_at_start_each : Net → List ℕ → List ℕ → World

@@ -1,9 +1,9 @@
 ghost use Rattle.gs_world.specs.Laws.{RunsAreBounded, EndsAreBounded, RunsKeepTheBudget, NodesAreReplayed};
 
 /// From equal clocks, after any events that the bounds of the plan allow: all clocks are within `G(0)` of
-/// each other, the potential of each level `s` is at most `G(s)`, the ends of an edge are within `2*s`
-/// times its kappa and `G(s)`, no maximum is above the greatest clock, and none is behind a clock by more
-/// than `lambda`. All in clock units, at every moment and for every level.
+/// each other, the potential of each level `s` is at most `G(s)`, the ends of each edge e are within
+/// `2*s*kappa(e) + G(s)`, no maximum is above the greatest clock, and none is behind a clock by more than
+/// `lambda`. All in clock units, at every moment and for every level.
 ///
 /// The argument is in `docs/MODEL.md`, "Why it holds". Its idea is that of Lenzen, Locher and Wattenhofer
 /// (JACM 2010) and of Kuhn, Lenzen, Locher and Oshman (PODC 2010).
@@ -23,7 +23,8 @@ pub fn runs_keep_the_budget()
 {}
 
 /// A node of a world is what it would be alone: the replay of the ticks and beacons that came to it, each at
-/// its own reading then, ends in its state and meets no fault. It holds from whatever clocks at most 2^61.
+/// its own reading then, ends in its state and meets no fault. It holds from any readings and clocks of at most
+/// 2^61.
 pub fn nodes_are_replayed()
     ensures { NodesAreReplayed }
 {}

@@ -2,39 +2,54 @@ ghost use Rattle.std.specs.Prelude.{◌≡◌};
 ghost use Rattle.gs_world.specs.declared.refused.Refused.TheVariants.{OutOfMemory};
 
 use std::alloc::AllocError;
-use thiserror::Error;
+use std::error::Error;
+use std::fmt;
 
 /// Why an event is not allowed.
-#[derive(Clone, Copy, Debug, PartialEq, Eq, Error)]
+#[derive(Clone, Copy, Debug, PartialEq, Eq)]
 pub enum Refused {
     /// There are not as many increments as nodes, or no such node or no such edge.
-    #[error("shape")]
     Shape,
     /// The world has taken all its quanta.
-    #[error("end")]
     End,
     /// The increment of this node is out of its bounds.
-    #[error("drift {0}")]
     Drift(u32),
     /// The last tick of this node is as old as it may get.
-    #[error("due {0}")]
     TickDue(u32),
     /// What the second node last heard of the first is as old as it may get.
-    #[error("stale {0} {1}")]
     Stale(u32, u32),
     /// No such beacon was sent.
-    #[error("unknown")]
     Unknown,
     /// The beacon comes sooner than its edge allows.
-    #[error("early")]
     Early,
     /// The beacon comes later than its edge allows.
-    #[error("late")]
     Late,
     /// Memory was refused.
-    #[error("out of memory")]
     OutOfMemory,
 }
+
+impl fmt::Display for Refused {
+    ghost use Rattle.std.specs.Prelude.{Some};
+    ghost use Rattle.gs_world.specs.Words.{words_of};
+
+    ghost output = { λ refused. Some (words_of refused) };
+
+    fn fmt<W: fmt::Write>(&self, f: &mut fmt::Formatter<W>) -> fmt::Result {
+        match self {
+            Refused::Shape => f.write_str("shape"),
+            Refused::End => f.write_str("end"),
+            Refused::Drift(v) => write!(f, "drift {v}"),
+            Refused::TickDue(v) => write!(f, "due {v}"),
+            Refused::Stale(from, to) => write!(f, "stale {from} {to}"),
+            Refused::Unknown => f.write_str("unknown"),
+            Refused::Early => f.write_str("early"),
+            Refused::Late => f.write_str("late"),
+            Refused::OutOfMemory => f.write_str("out of memory"),
+        }
+    }
+}
+
+impl Error for Refused {}
 
 impl From<AllocError> for Refused {
     ghost from_gives = { λ _ e. e ≡ OutOfMemory };

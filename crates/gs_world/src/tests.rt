@@ -216,7 +216,7 @@ fn quanta_end(rt: HostRuntime) -> Result<(), Fail> {
     Ok(())
 }
 
-/// Node 1 starts 100 ms behind node 0, hears it once and runs fast from its next tick on.
+/// Node 1 starts 100,000 clock units behind node 0, hears it once and runs fast from its next tick on.
 #[test]
 fn a_node_behind_runs_fast(rt: HostRuntime) -> Result<(), Fail> {
     let alloc = rt.alloc();
@@ -248,5 +248,24 @@ fn a_node_behind_runs_fast(rt: HostRuntime) -> Result<(), Fail> {
     assert_eq!(rt; (world.clock(0), world.clock(1)), (130_001, 30_022));
     assert_eq!(rt; (world.quanta(), world.global_skew()), (3, 99_979));
     plans_have_numbers();
+    Ok(())
+}
+
+#[test]
+fn refusals_have_their_words(rt: HostRuntime) -> Result<(), Fail> {
+    for (refused, words) in [
+        (Refused::Shape, "shape"),
+        (Refused::End, "end"),
+        (Refused::Drift(0), "drift 0"),
+        (Refused::TickDue(4_294_967_295), "due 4294967295"),
+        (Refused::Stale(7, 12), "stale 7 12"),
+        (Refused::Unknown, "unknown"),
+        (Refused::Early, "early"),
+        (Refused::Late, "late"),
+        (Refused::OutOfMemory, "out of memory"),
+    ] {
+        let text = refused.to_string(rt.alloc())?;
+        assert_eq!(rt; text.as_str(), words);
+    }
     Ok(())
 }
