@@ -1,8 +1,7 @@
 -- What is kept of nodes and senders, one more at a time.
-use Rattle.std.proofs.Common.{◌≡◌, ◌≢◌, ◌∙◌, ◌<◌, ◌≤◌, ◌+◌, ℕ, List, [], ◌∷◌, ◌++◌, length, length-append, map, replicate, set, take, get_or, slice_get, slice_index, unwrap_or, max, not, Some, refl, sym, ap, arith, inl, inr}
+use Rattle.std.proofs.Common.{◌≡◌, ◌≢◌, ◌∙◌, ◌<◌, ◌≤◌, ◌+◌, ℕ, List, [], ◌∷◌, ◌++◌, length, length-append, map, replicate, set, take, get_or, slice_get, slice_index, max, not, Some, refl, sym, ap, arith, inl, inr}
 use Rattle.std.specs.List.{range_with_len}
-use Rattle.std.specs.List.Sorted.{IsStrictlyIncreasing}
-use Rattle.std.proofs.lemmas.List.Kept.{AllPairs-from_increasing, IsStrictlyIncreasing-filter}
+use Rattle.std.proofs.lemmas.List.Kept.{AllPairs-from_increasing}
 use Rattle.std.proofs.lemmas.Bool.{cases_lt}
 use Rattle.std.proofs.lemmas.List.{get_or-map, get_or-set_other, get_or-set_same, get_or_append_left, get_or_default, get_or_push, length-map, length-replicate, length-set, map-append, take_all, take_more}
 use Rattle.std.proofs.lemmas.List.Filters.{length-filter_both}
@@ -18,27 +17,12 @@ use Rattle.gs_plan.specs.Edges.{edge_text}
 use Rattle.gs_plan.specs.Numbers.{numbers_in, numbers_of}
 use Rattle.gs_plan.specs.Shapes.{graph_of_text}
 use Rattle.gs_plan.proofs.Linking.{has_number, numbers_at}
+use Rattle.gs_plan.proofs.Telling.{neighbours_ascend}
 use Rattle.gs_script.specs.declared.kept.Node.{Node}
 use Rattle.gs_script.specs.declared.kept.Sender.{Sender}
 use Rattle.gs_script.specs.declared.kept.Way.{Way}
 use Rattle.gs_script.specs.declared.line.Line.{Line}
-use Rattle.gs_script.specs.declared.line.Topic.TheVariants as topic
-use Rattle.gs_script.specs.Lines.{last_said}
-use Rattle.gs_script.proofs.Latest.{kept_says}
-use Rattle.gs_script.specs.Kept.{first_value, HasAllWays, HasSenders, HasWays, least_between, node_of, way_of}
-
--- numbers from one on ascend
-range_ascends : (a n : ℕ) → IsStrictlyIncreasing (range_with_len a n)
-range_ascends a n = λ k h.
-    let count : length (range_with_len a n) ≡ n = length-range_with_len a n in
-    let here : slice_index (range_with_len a n) k ≡ a + k = get_or-range_with_len a n k 0 (omega (arith, count, h)) in
-    let next : slice_index (range_with_len a n) (k + 1) ≡ a + (k + 1) = get_or-range_with_len a n (k + 1) 0 (omega (arith, count, h)) in
-    omega (arith, here, next)
-
--- so do the neighbours of a node
-neighbours_ascend : (g : Graph) (v i j : ℕ) → i < j → j < length (neighbours_of g v) → slice_index (neighbours_of g v) i < slice_index (neighbours_of g v) j
-neighbours_ascend g v i j less inside =
-    AllPairs-from_increasing (neighbours_of g v) (IsStrictlyIncreasing-filter (adjacent g v) (range_with_len 0 g.nodes) (range_ascends 0 g.nodes)) i j 0 less inside
+use Rattle.gs_script.specs.Kept.{HasAllWays, HasSenders, HasWays, least_between, node_of, way_of}
 
 -- a neighbour has a place among them
 place_of : (g : Graph) (v w : ℕ) → w < g.nodes → Adjacent g v w → (j : ℕ) × (j < length (neighbours_of g v)) × (slice_index (neighbours_of g v) j ≡ w)
@@ -73,7 +57,7 @@ ways-more t lines v k w index ways inside is has = record {
 
   old : (i : ℕ) → i < k → slice_index (set index w k) (slice_index ns i) ≡ i
   old i lt =
-      let less : slice_index ns i < slice_index ns k = neighbours_ascend (graph_of_text t) v i k lt inside in
+      let less : slice_index ns i < slice_index ns k = AllPairs-from_increasing ns (neighbours_ascend (graph_of_text t) v) i k 0 lt inside in
       let other : slice_index ns i ≢ w = λ same. omega (arith, less, same, is) in
       get_or-set_other index w (slice_index ns i) k 0 other ∙ has.each i lt
 
@@ -122,18 +106,7 @@ node_at lines n v ns d are h =
     let number : get_or (range_with_len 0 n) v 0 ≡ v = get_or-range_with_len 0 n v 0 h ∙ omega arith in
     (rw (are, length-map (range_with_len 0 n) (node_of lines)) inside, rw are (get_or-map (node_of lines) (range_with_len 0 n) v 0 d inside) ∙ ap (node_of lines) number)
 
--- the reader of a node's records reads what the last record says
-pub drift_said : (lines : List Line) (n v t lo : ℕ) (ns : List Node) (d : Node) → ns ≡ map (node_of lines) (range_with_len 0 n) → v < n
-    → unwrap_or (first_value t lines (get_or ns v d).drifts) lo ≡ unwrap_or (last_said (topic.Drift v) t lines) lo
-drift_said lines n v t lo ns d are h =
-    let is : get_or ns v d ≡ node_of lines v = (node_at lines n v ns d are h).1 in
-    rw (is, kept_says (topic.Drift v) t lines) refl
-
-pub tick_said : (lines : List Line) (n v t most : ℕ) (ns : List Node) (d : Node) → ns ≡ map (node_of lines) (range_with_len 0 n) → v < n
-    → unwrap_or (first_value t lines (get_or ns v d).ticks) most ≡ unwrap_or (last_said (topic.Tick v) t lines) most
-tick_said lines n v t most ns d are h =
-    let is : get_or ns v d ≡ node_of lines v = (node_at lines n v ns d are h).1 in
-    rw (is, kept_says (topic.Tick v) t lines) refl
+pub ruleset kept_nodes = (node_at)
 
 -- what is kept of a way
 pub way_at : (t : PlanText) (lines : List Line) (n v w : ℕ) (senders : List Sender) (s : Sender) (d : Way) → HasSenders t lines n senders → v < n → s ≡ get_or senders v s → w < (graph_of_text t).nodes → Adjacent (graph_of_text t) v w

@@ -4,6 +4,7 @@ pub mod Edges
 pub mod Between
 pub mod Delays
 pub mod Within
+pub mod ReadWithin
 pub mod Latest
 pub mod Keeping
 pub mod Folded

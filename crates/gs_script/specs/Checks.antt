@@ -1,5 +1,6 @@
 -- What the plan allows a record to say.
-use Rattle.std.specs.Prelude.{ℕ, ◌+◌, ◌*◌, ◌==◌, ◌&&◌, ◌||◌, nat_lt, length, Bool, true, Option, Some, None, Result, Ok, Err, if◌then◌else◌}
+use Rattle.std.specs.Prelude.{ℕ, ◌+◌, ◌*◌, ◌==◌, ◌&&◌, ◌||◌, nat_lt, length, if◌then◌else◌}
+use Rattle.std.specs.Prelude.{Bool, true, false, Result, Ok, Err}
 use Rattle.std.specs.List.{list_any}
 use Rattle.gs_topo.specs.Graph.{adjacent}
 use Rattle.gs_planfile.specs.declared.text.PlanText.{PlanText}
@@ -8,6 +9,8 @@ use Rattle.gs_plan.specs.Faults.{is_outside}
 use Rattle.gs_plan.specs.Shapes.{graph_of_text}
 use Rattle.gs_script.specs.declared.fault.ScriptFault.{ScriptFault}
 use Rattle.gs_script.specs.declared.fault.ScriptFault.TheVariants as fault
+use Rattle.gs_script.specs.declared.fields.NodeField.{NodeField}
+use Rattle.gs_script.specs.declared.fields.NodeField.TheVariants.{Star, Number}
 use Rattle.gs_script.specs.declared.line.Who.{Who}
 use Rattle.gs_script.specs.declared.line.Who.TheVariants.{Every, One}
 use Rattle.gs_script.specs.declared.line.Span.{Span}
@@ -23,9 +26,9 @@ abbrev pub quanta_in : PlanText → ℕ → Result ℕ ScriptFault
 quanta_in t n = if is_large t n then Err fault.Large else Ok n
 
 -- a node of the plan, or the star
-abbrev pub who_in : PlanText → ℕ → Option ℕ → Result Who ScriptFault
-who_in t k None = Ok Every
-who_in t k (Some v) = if nat_lt v (graph_of_text t).nodes then Ok (One v) else Err (fault.Node k)
+abbrev pub who_in : PlanText → ℕ → NodeField → Result Who ScriptFault
+who_in t k Star = Ok Every
+who_in t k (Number v) = if nat_lt v (graph_of_text t).nodes then Ok (One v) else Err (fault.Node k)
 
 -- two nodes are joined by an edge; the star may be any node
 abbrev pub may_be_joined : PlanText → Who → Who → Bool
@@ -38,11 +41,16 @@ edge_in t k v w = require (may_be_joined t v w) (fault.Edge k)
 -- quanta from 1 on, up to the last one
 abbrev pub span_in : ℕ → ℕ → ℕ → ℕ → Result Span ScriptFault
 span_in quanta k from to =
-    if (from == 0) || (nat_lt to from || nat_lt quanta to) then Err (fault.Span k) else Ok (record { from = from; to = to })
+    if (from == 0) || (nat_lt to from || nat_lt quanta to) then Err (fault.Span k)
+    else Ok (record { from = from; to = to })
 
 -- a value within low to high
 abbrev pub value_within : ℕ → ℕ → ℕ → ℕ → Result ℕ ScriptFault
 value_within low high k x = if is_outside low high x then Err (fault.Bound k) else Ok x
+
+-- a flag is 0 or 1
+abbrev pub flag_in : ℕ → ℕ → Result Bool ScriptFault
+flag_in k x = if x == 0 then Ok false else if x == 1 then Ok true else Err (fault.Bound k)
 
 -- a record for beacons from v to w matches beacons over the edge, in one direction or the other
 abbrev pub meets : Who → Who → ℕ × ℕ → Bool

@@ -1,5 +1,6 @@
 -- The fields of a record, each as a text.
-use Rattle.std.specs.Prelude.{codes, ℕ, ◌==◌, length, List, Bool, true, false, Option, Some, None, option_and_then, option_map, ok_or, Result, Ok, Err, if◌then◌else◌}
+use Rattle.std.specs.Prelude.{codes, ℕ, ◌==◌, length, List, Bool, true, false, Option, Some, None, Result, Ok, Err}
+use Rattle.std.specs.Prelude.{option_and_then, option_map, ok_or, if◌then◌else◌}
 use Rattle.std.specs.Str.{bytes_eq, is_utf8}
 use Rattle.std.specs.List.{list_all}
 use Rattle.std.specs.Option.{option_map_or}
@@ -7,6 +8,8 @@ use Rattle.csv.specs.Records.{field_at}
 use Rattle.gs_text.specs.Numbers.{number_of}
 use Rattle.gs_script.specs.declared.fault.ScriptFault.{ScriptFault}
 use Rattle.gs_script.specs.declared.fault.ScriptFault.TheVariants as fault
+use Rattle.gs_script.specs.declared.fields.NodeField.{NodeField}
+use Rattle.gs_script.specs.declared.fields.NodeField.TheVariants.{Star, Number}
 use Rattle.gs_script.specs.declared.fields.Word.{Word}
 use Rattle.gs_script.specs.declared.fields.Word.TheVariants.{Quanta, Drift, Tick, Delay, Loss}
 
@@ -52,9 +55,9 @@ unfoldable pub number_at : ℕ → List (List ℕ) → ℕ → Result ℕ Script
 number_at k fs i = ok_or (option_and_then number_of (field_at fs i)) (fault.Number k)
 
 -- a star, or a number
-abbrev pub star_or_number : List ℕ → Option (Option ℕ)
-star_or_number f = if bytes_eq f (codes "*") then Some None else option_map Some (number_of f)
+abbrev pub star_or_number : List ℕ → Option NodeField
+star_or_number f = if bytes_eq f (codes "*") then Some Star else option_map Number (number_of f)
 
--- the node in a field: none where it is the star
-unfoldable pub node_at : ℕ → List (List ℕ) → ℕ → Result (Option ℕ) ScriptFault
+-- the node in a field, or the star
+unfoldable pub node_at : ℕ → List (List ℕ) → ℕ → Result NodeField ScriptFault
 node_at k fs i = ok_or (option_and_then star_or_number (field_at fs i)) (fault.Number k)

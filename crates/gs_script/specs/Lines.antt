@@ -1,14 +1,13 @@
 -- What the records of a script say, and which of them decides.
-use Rattle.std.specs.Prelude.{ℕ, ◌==◌, ◌&&◌, nat_le, List, [], ◌∷◌, Bool, true, false, Option, Some, None, if◌then◌else◌}
+use Rattle.std.specs.Prelude.{ℕ, ◌==◌, ◌&&◌, nat_le, if◌then◌else◌}
+use Rattle.std.specs.Prelude.{List, [], ◌∷◌, Bool, true, Option, Some, None}
 use Rattle.std.specs.Option.{option_or}
 use Rattle.gs_script.specs.declared.line.Who.{Who}
 use Rattle.gs_script.specs.declared.line.Who.TheVariants.{Every, One}
 use Rattle.gs_script.specs.declared.line.Span.{Span}
-use Rattle.gs_script.specs.declared.line.Kind.{Kind}
-use Rattle.gs_script.specs.declared.line.Kind.TheVariants as kind
+use Rattle.gs_script.specs.declared.line.Setting.{Setting}
+use Rattle.gs_script.specs.declared.line.Setting.TheVariants.{Drift, Tick, Delay, Loss}
 use Rattle.gs_script.specs.declared.line.Line.{Line}
-use Rattle.gs_script.specs.declared.line.Topic.{Topic}
-use Rattle.gs_script.specs.declared.line.Topic.TheVariants.{Drift, Tick, Delay, Loss}
 
 -- a node, or the star, is this node
 abbrev pub is_for : Who → ℕ → Bool
@@ -19,23 +18,27 @@ is_for (One w) v = w == v
 abbrev pub holds : Span → ℕ → Bool
 holds s t = nat_le s.from t && nat_le t s.to
 
--- a record of this kind sets what is asked for
-abbrev pub matches : Topic → Kind → Bool
-matches (Drift v) (kind.Drift who) = is_for who v
-matches (Tick v) (kind.Tick who) = is_for who v
-matches (Delay v w) (kind.Delay from to) = is_for from v && is_for to w
-matches (Loss v w) (kind.Loss from to) = is_for from v && is_for to w
-matches _ _ = false
+-- the increment that a record sets for node v
+abbrev pub inc_said : ℕ → Setting → Option ℕ
+inc_said v (Drift node inc) = if is_for node v then Some inc else None
+inc_said v _ = None
 
--- the value of a record in quantum t
-abbrev pub value_in : ℕ → Line → Option ℕ
-value_in t l = if holds l.span t then Some l.value else None
+-- the gap between ticks that it sets for node v
+abbrev pub gap_said : ℕ → Setting → Option ℕ
+gap_said v (Tick node gap) = if is_for node v then Some gap else None
+gap_said v _ = None
 
--- what a record says of a topic in quantum t
-abbrev pub said : Topic → ℕ → Line → Option ℕ
-said x t l = if matches x l.kind then value_in t l else None
+-- the delay that it sets for beacons from v to w
+abbrev pub delay_said : ℕ → ℕ → Setting → Option ℕ
+delay_said v w (Delay from to quanta) = if is_for from v && is_for to w then Some quanta else None
+delay_said v w _ = None
 
--- what the last record says that says anything
-unfoldable pub last_said : Topic → ℕ → List Line → Option ℕ
-last_said x t [] = None
-last_said x t (l ∷ ls) = option_or (last_said x t ls) (said x t l)
+-- whether they are lost, where it sets that
+abbrev pub loss_said : ℕ → ℕ → Setting → Option Bool
+loss_said v w (Loss from to is_lost) = if is_for from v && is_for to w then Some is_lost else None
+loss_said v w _ = None
+
+-- what the last record says in quantum t that says anything
+unfoldable pub last_said : {A : Type 0} → (Setting → Option A) → ℕ → List Line → Option A
+last_said said t [] = None
+last_said said t (l ∷ ls) = option_or (last_said said t ls) (if holds l.span t then said l.setting else None)

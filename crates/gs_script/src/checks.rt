@@ -1,11 +1,12 @@
 ghost use Rattle.std.specs.Prelude.{◌&&◌, ◌≡◌, ◌≤◌, ◌<◌, IfOk, false};
 ghost use Rattle.std.specs.List.{list_any};
 ghost use Rattle.gs_plan.specs.Plans.{text_of};
-ghost use Rattle.gs_script.specs.Checks.{delay_in, edge_in, is_bad_delay, is_delay_outside, is_large, may_be_joined, meets, quanta_in, span_in, value_within, who_in};
+ghost use Rattle.gs_script.specs.Checks.{delay_in, edge_in, flag_in, is_bad_delay, is_delay_outside, is_large};
+ghost use Rattle.gs_script.specs.Checks.{may_be_joined, meets, quanta_in, span_in, value_within, who_in};
 ghost use Rattle.gs_script.specs.Kept.{IsKnown, links_of};
 
 use crate::fault::ScriptFault;
-use crate::fields::require;
+use crate::fields::{NodeField, require};
 use crate::line::{Span, Who};
 use crate::links::{Link, graph};
 use gs_plan::Plan;
@@ -38,13 +39,13 @@ pub(crate) fn quanta_in(plan: &Plan, quanta: u64) -> Result<u32, ScriptFault>
 }
 
 /// A node of the plan, or the star.
-pub(crate) fn who_in(plan: &Plan, k: u32, node: Option<u64>) -> Result<Who, ScriptFault>
+pub(crate) fn who_in(plan: &Plan, k: u32, node: NodeField) -> Result<Who, ScriptFault>
     ensures value { result ≡ who_in (text_of plan.now) k node }
     ensures known { IfOk result (IsKnown (text_of plan.now)) }
 {
     match node {
-        None => Ok(Who::Every),
-        Some(v) => {
+        NodeField::Star => Ok(Who::Every),
+        NodeField::Number(v) => {
             if v < u64::from(graph(plan).nodes()) {
                 Ok(Who::One(v as u32))
             } else {
@@ -98,6 +99,17 @@ pub(crate) fn value_within(low: u32, high: u32, k: u32, x: u64) -> Result<u32, S
         Err(ScriptFault::Bound(k))
     } else {
         Ok(x as u32)
+    }
+}
+
+/// A flag, which is 0 or 1.
+pub(crate) fn flag_in(k: u32, x: u64) -> Result<bool, ScriptFault>
+    ensures { result ≡ flag_in k x }
+{
+    match x {
+        0 => Ok(false),
+        1 => Ok(true),
+        _ => Err(ScriptFault::Bound(k)),
     }
 }
 

@@ -2,7 +2,8 @@ ghost use Rattle.std.specs.Prelude.{◌≡◌, ◌<◌, [], get_or, length};
 ghost use Rattle.std.specs.List.{list_all};
 ghost use Rattle.std.specs.Str.{is_utf8};
 ghost use Rattle.csv.specs.Records.{fields_of};
-ghost use Rattle.gs_script.specs.Fields.{begins_with, count_in, node_at, number_at, require, star_or_number, texts_in, word_at, word_of};
+ghost use Rattle.gs_script.specs.Fields.{begins_with, count_in, node_at, number_at, require};
+ghost use Rattle.gs_script.specs.Fields.{star_or_number, texts_in, word_at, word_of};
 
 use crate::fault::ScriptFault;
 use csv::ByteRecord;
@@ -17,6 +18,13 @@ pub(crate) enum Word {
     Tick,
     Delay,
     Loss,
+}
+
+/// A field for a node.
+#[derive(Clone, Copy, Debug, PartialEq, Eq)]
+pub(crate) enum NodeField {
+    Star,
+    Number(u64),
 }
 
 /// A fault where the test fails.
@@ -120,22 +128,21 @@ pub(crate) fn number_at(k: u32, row: &ByteRecord, i: usize) -> Result<u64, Scrip
     }
 }
 
-/// A number, or none for the star.
-fn star_or_number(field: &[u8]) -> Option<Option<u64>>
+fn star_or_number(field: &[u8]) -> Option<NodeField>
     ensures { result ≡ star_or_number field.now }
 {
     if field == b"*".as_slice() {
-        return Some(None);
+        return Some(NodeField::Star);
     }
     match read_u64(field) {
-        Some(n) => Some(Some(n)),
+        Some(n) => Some(NodeField::Number(n)),
         None => None,
     }
 }
 
-/// The node in field `i` of record `k`, or none for the star.
+/// The node in field `i` of record `k`, or the star.
 #[tactic(auto, unfolding(crate::specs::Fields::node_at))]
-pub(crate) fn node_at(k: u32, row: &ByteRecord, i: usize) -> Result<Option<u64>, ScriptFault>
+pub(crate) fn node_at(k: u32, row: &ByteRecord, i: usize) -> Result<NodeField, ScriptFault>
     ensures { result ≡ node_at k (fields_of row.now) i }
 {
     match row.get(i) {

@@ -8,6 +8,7 @@ ghost use Rattle.gs_script.specs.Kept.{HasAllWays, HasSenders, is_from, latest, 
 use crate::line::{Line, Topic};
 use crate::links::graph;
 use crate::places::Places;
+use crate::record::MOST_RECORDS;
 use gs_plan::Plan;
 use std::alloc::{AllocError, Global};
 
@@ -26,9 +27,10 @@ pub(crate) struct Way {
     pub(crate) losses: Places,
 }
 
-/// The ways from a node to its neighbours, and for each of these its place among them.
+/// The ways from a node to its neighbours.
 #[derive(Debug, Drop)]
 pub(crate) struct Sender {
+    /// A place among the ways for every node of the plan, of which those of the neighbours count.
     pub(crate) index: Vec<u16>,
     pub(crate) ways: Vec<Way>,
 }
@@ -43,8 +45,8 @@ fn node_from(alloc: Global, lines: &[Line], places: &Places, v: u32) -> Result<N
     Ok(Node { drifts, ticks })
 }
 
-#[tactic(auto, using(crate::proofs::Keeping::least))]
 /// The least delay of beacons between two neighbours, which is at least one quantum.
+#[tactic(auto, using(crate::proofs::Keeping::least))]
 fn least_delay(plan: &Plan, v: u32, w: u32) -> u32
     requires { Adjacent (graph_of_text (text_of plan.now)) v w }
     ensures { result ≡ least_between (text_of plan.now) v w }
@@ -93,8 +95,7 @@ fn ways_from(
     let neighbours = graph(plan).neighbours(v);
     let mut index = vec![in alloc; 0; graph(plan).nodes() as usize]?;
     let mut ways = Vec::new(alloc);
-    for k in 0..neighbours.len() {
-        let w = neighbours[k];
+    for (k, &w) in neighbours.iter().enumerate() {
         index[w as usize] = k as u16;
         ways.push(way_to(alloc, plan, lines, places, v, w)?)?;
     }
@@ -108,7 +109,7 @@ pub(crate) fn nodes_and_senders(
     plan: &Plan,
     lines: &[Line],
 ) -> Result<(Vec<Node>, Vec<Sender>), AllocError>
-    requires { length lines.now ≤ 4096 }
+    requires { length lines.now ≤ MOST_RECORDS }
     ensures nodes { IfOk result (λ kept. kept.0.items
         ≡ map (node_of lines.now) (range_with_len 0 (graph_of_text (text_of plan.now)).nodes)) }
     ensures senders { IfOk result (λ kept.

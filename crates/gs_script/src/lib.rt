@@ -7,7 +7,6 @@ pub use read::read_script;
 pub use script::Script;
 
 mod checks;
-mod copy;
 mod fault;
 mod fields;
 mod kept;

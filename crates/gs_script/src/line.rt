@@ -1,5 +1,6 @@
 ghost use Rattle.std.specs.Prelude.{◌≡◌};
-ghost use Rattle.gs_script.specs.Lines.{holds, is_for, matches, value_in};
+ghost use Rattle.gs_script.specs.Kept.{matches, setting_in};
+ghost use Rattle.gs_script.specs.Lines.{holds, is_for};
 
 /// A node, or the star, which stands for every node.
 #[derive(Clone, Copy, Debug, PartialEq, Eq)]
@@ -15,25 +16,24 @@ pub struct Span {
     pub to: u32,
 }
 
-/// What a record sets.
+/// What a record sets, and to which value.
 #[derive(Clone, Copy, Debug, PartialEq, Eq)]
-pub enum Kind {
+pub enum Setting {
     /// What a node's hardware clock advances by in a quantum, in clock units.
-    Drift(Who),
+    Drift { node: Who, inc: u32 },
     /// The gap between a node's ticks, in quanta.
-    Tick(Who),
+    Tick { node: Who, gap: u32 },
     /// The delay of beacons from a sender to a receiver, in quanta.
-    Delay(Who, Who),
-    /// Whether beacons from a sender to a receiver are lost: 1 where they are, 0 where not.
-    Loss(Who, Who),
+    Delay { from: Who, to: Who, quanta: u32 },
+    /// Whether beacons from a sender to a receiver are lost.
+    Loss { from: Who, to: Who, is_lost: bool },
 }
 
-/// A record of a script behind the first: what it sets, when, and to which value.
+/// A record of a script behind the first: what it sets, and when.
 #[derive(Clone, Copy, Debug, PartialEq, Eq)]
 pub struct Line {
-    pub kind: Kind,
     pub span: Span,
-    pub value: u32,
+    pub setting: Setting,
 }
 
 /// What is asked of a script: the drift or the tick gap of a node, or the delay or the loss of beacons
@@ -67,29 +67,28 @@ impl Span {
 }
 
 impl Topic {
-    /// Whether a record of this kind sets it.
-    pub(crate) fn matches(self, kind: Kind) -> bool
-        ensures { result ≡ matches self kind }
+    /// Whether it is what a record sets.
+    pub(crate) fn matches(self, setting: Setting) -> bool
+        ensures { result ≡ matches self setting }
     {
-        match (self, kind) {
-            (Topic::Drift(v), Kind::Drift(who)) | (Topic::Tick(v), Kind::Tick(who)) => {
-                who.is_for(v)
-            }
-            (Topic::Delay(v, w), Kind::Delay(from, to))
-            | (Topic::Loss(v, w), Kind::Loss(from, to)) => from.is_for(v) && to.is_for(w),
+        match (self, setting) {
+            (Topic::Drift(v), Setting::Drift { node, .. })
+            | (Topic::Tick(v), Setting::Tick { node, .. }) => node.is_for(v),
+            (Topic::Delay(v, w), Setting::Delay { from, to, .. })
+            | (Topic::Loss(v, w), Setting::Loss { from, to, .. }) => from.is_for(v) && to.is_for(w),
             _ => false,
         }
     }
 }
 
 impl Line {
-    /// The value in a quantum of its span.
-    pub(crate) fn value_in(&self, t: u32) -> Option<u32>
-        ensures { result ≡ value_in t self.now }
+    /// What it sets in a quantum of its span.
+    pub(crate) fn setting_in(&self, t: u32) -> Option<Setting>
+        ensures { result ≡ setting_in t self.now }
     {
         let line = *self;
         if line.span.holds(t) {
-            Some(line.value)
+            Some(line.setting)
         } else {
             None
         }

@@ -45,8 +45,8 @@ pub(crate) fn links(alloc: Global, plan: &Plan) -> Result<Vec<Link>, AllocError>
 {
     let edges = graph(plan).edges();
     let mut links = Vec::new(alloc);
-    for e in 0..edges.len() {
-        links.push(link_over(plan, e as u32, edges[e]))?;
+    for (e, edge) in edges.iter().enumerate() {
+        links.push(link_over(plan, e as u32, *edge))?;
     }
     Ok(links)
 }

@@ -1,8 +1,9 @@
 ghost use Rattle.std.specs.Prelude.{◌≡◌, ◌≤◌, IfOk, length, option_and_then, slice_get};
-ghost use Rattle.gs_script.specs.Kept.{first_value, is_at, is_from, latest, node_in};
-ghost use Rattle.gs_script.specs.Lines.{matches, value_in};
+ghost use Rattle.gs_script.specs.Kept.{delay_set, first_setting, gap_set, inc_set, is_at, is_from};
+ghost use Rattle.gs_script.specs.Kept.{is_lost_set, latest, matches, node_in, setting_in};
 
-use crate::line::{Kind, Line, Topic};
+use crate::line::{Line, Setting, Topic};
+use crate::record::MOST_RECORDS;
 use std::alloc::{AllocError, Global};
 use std::marker::Model;
 
@@ -20,23 +21,23 @@ impl Model for Places {
     ghost view = { λ p. p.items.items };
 }
 
-/// The value of the record at a place, in a quantum of its span.
-fn value_at(lines: &[Line], place: u16, t: u32) -> Option<u32>
-    ensures { result ≡ option_and_then (value_in t) (slice_get lines.now place) }
+/// What the record at a place sets, in a quantum of its span.
+fn setting_at(lines: &[Line], place: u16, t: u32) -> Option<Setting>
+    ensures { result ≡ option_and_then (setting_in t) (slice_get lines.now place) }
 {
     match lines.get(usize::from(place)) {
-        Some(line) => line.value_in(t),
+        Some(line) => line.setting_in(t),
         None => None,
     }
 }
 
-/// Whether a record of this kind is of node `v`, or of beacons that it sends.
-fn is_from(v: u32, kind: Kind) -> bool
-    ensures { result ≡ is_from v kind }
+/// Whether this is set for node `v`, or for beacons that it sends.
+fn is_from(v: u32, setting: Setting) -> bool
+    ensures { result ≡ is_from v setting }
 {
-    match kind {
-        Kind::Drift(who) | Kind::Tick(who) => who.is_for(v),
-        Kind::Delay(from, _) | Kind::Loss(from, _) => from.is_for(v),
+    match setting {
+        Setting::Drift { node, .. } | Setting::Tick { node, .. } => node.is_for(v),
+        Setting::Delay { from, .. } | Setting::Loss { from, .. } => from.is_for(v),
     }
 }
 
@@ -45,7 +46,7 @@ fn is_set_at(lines: &[Line], place: u16, topic: Topic) -> bool
     ensures { result ≡ is_at (matches topic) lines.now place }
 {
     match lines.get(usize::from(place)) {
-        Some(line) => topic.matches(line.kind),
+        Some(line) => topic.matches(line.setting),
         None => false,
     }
 }
@@ -54,12 +55,12 @@ impl Places {
     /// The places of the records of node `v` and of beacons that it sends.
     #[tactic(auto, using(crate::proofs::Latest::steps))]
     pub(crate) fn of_node(alloc: Global, lines: &[Line], v: u32) -> Result<Self, AllocError>
-        requires { length lines.now ≤ 4096 }
+        requires { length lines.now ≤ MOST_RECORDS }
         ensures { IfOk result (λ places. places ≡ latest (is_from v) 0 lines.now) }
     {
         let mut items = Vec::new(alloc);
         for i in (0..lines.len()).rev() {
-            if is_from(v, lines[i].kind) {
+            if is_from(v, lines[i].setting) {
                 items.push(i as u16)?;
             }
         }
@@ -86,16 +87,56 @@ impl Places {
         Ok(Places { items })
     }
 
-    /// The value of the first of these records whose span holds quantum `t`.
+    /// What the first of these records sets whose span holds quantum `t`.
     #[tactic(auto, using(crate::proofs::Latest::reads))]
-    pub(crate) fn value_in(&self, lines: &[Line], t: u32) -> Option<u32>
-        ensures { result ≡ first_value t lines.now self.now }
+    fn setting_in(&self, lines: &[Line], t: u32) -> Option<Setting>
+        ensures { result ≡ first_setting t lines.now self.now }
     {
         for place in &self.items {
-            if let Some(value) = value_at(lines, *place, t) {
-                return Some(value);
+            if let Some(setting) = setting_at(lines, *place, t) {
+                return Some(setting);
             }
         }
         None
+    }
+
+    /// The increment that it sets.
+    pub(crate) fn inc(&self, lines: &[Line], t: u32) -> Option<u32>
+        ensures { result ≡ option_and_then inc_set (first_setting t lines.now self.now) }
+    {
+        match self.setting_in(lines, t) {
+            Some(Setting::Drift { inc, .. }) => Some(inc),
+            _ => None,
+        }
+    }
+
+    /// The gap between ticks that it sets.
+    pub(crate) fn gap(&self, lines: &[Line], t: u32) -> Option<u32>
+        ensures { result ≡ option_and_then gap_set (first_setting t lines.now self.now) }
+    {
+        match self.setting_in(lines, t) {
+            Some(Setting::Tick { gap, .. }) => Some(gap),
+            _ => None,
+        }
+    }
+
+    /// The delay that it sets, in quanta.
+    pub(crate) fn delay(&self, lines: &[Line], t: u32) -> Option<u32>
+        ensures { result ≡ option_and_then delay_set (first_setting t lines.now self.now) }
+    {
+        match self.setting_in(lines, t) {
+            Some(Setting::Delay { quanta, .. }) => Some(quanta),
+            _ => None,
+        }
+    }
+
+    /// Whether it sets a loss or that there is none.
+    pub(crate) fn is_lost(&self, lines: &[Line], t: u32) -> Option<bool>
+        ensures { result ≡ option_and_then is_lost_set (first_setting t lines.now self.now) }
+    {
+        match self.setting_in(lines, t) {
+            Some(Setting::Loss { is_lost, .. }) => Some(is_lost),
+            _ => None,
+        }
     }
 }

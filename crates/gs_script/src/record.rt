@@ -1,17 +1,46 @@
-ghost use Rattle.std.specs.Prelude.{◌≡◌, IfOk, false};
+ghost use Rattle.std.specs.Prelude.{◌≡◌, ◌≤◌, IfOk, false};
 ghost use Rattle.csv.specs.Records.{fields_of};
 ghost use Rattle.gs_plan.specs.Plans.{text_of};
 ghost use Rattle.gs_script.specs.Checks.{is_large};
 ghost use Rattle.gs_script.specs.Kept.{Fits, links_of};
-ghost use Rattle.gs_script.specs.Reading.{delay_at, drift_at, line_at, line_of, loss_at, quanta_at, tick_at};
+ghost use Rattle.gs_script.specs.Reading.{beacon_fields, delay_at, drift_at, line_at, line_of, loss_at};
+ghost use Rattle.gs_script.specs.Reading.{node_fields, quanta_at, tick_at};
 
-use crate::checks::{delay_in, edge_in, quanta_in, span_in, value_within, who_in};
+use crate::checks::{delay_in, edge_in, flag_in, quanta_in, span_in, value_within, who_in};
 use crate::fault::ScriptFault;
 use crate::fields::{Word, begins_with, count_in, node_at, number_at, require, texts_in, word_at};
-use crate::line::{Kind, Line};
+use crate::line::{Line, Setting, Span, Who};
 use crate::links::Link;
 use csv::ByteRecord;
 use gs_plan::Plan;
+
+/// The most records of a script.
+pub(crate) const MOST_RECORDS: u32 = 4_096;
+
+/// NODE,FROM,TO,VALUE of record `k`: of whom, in which quanta, and the value, which is within `low` to
+/// `high`.
+#[tactic(auto, unfolding(crate::specs::Reading::node_fields))]
+fn node_fields(
+    plan: &Plan,
+    quanta: u32,
+    low: u32,
+    high: u32,
+    k: u32,
+    row: &ByteRecord,
+) -> Result<(Who, Span, u32), ScriptFault>
+    ensures value { result ≡ node_fields (text_of plan.now) quanta low high k (fields_of row.now) }
+    ensures within { IfOk result (λ said. (low ≤ said.2) × (said.2 ≤ high)) }
+{
+    count_in(5, k, row)?;
+    let node = node_at(k, row, 1)?;
+    let from = number_at(k, row, 2)?;
+    let to = number_at(k, row, 3)?;
+    let number = number_at(k, row, 4)?;
+    let who = who_in(plan, k, node)?;
+    let span = span_in(quanta, k, from, to)?;
+    let value = value_within(low, high, k, number)?;
+    Ok((who, span, value))
+}
 
 /// drift,NODE,FROM,TO,INC
 #[tactic(auto, unfolding(crate::specs::Reading::drift_at))]
@@ -19,18 +48,11 @@ fn drift_at(plan: &Plan, quanta: u32, k: u32, row: &ByteRecord) -> Result<Line, 
     ensures value { result ≡ drift_at (text_of plan.now) quanta k (fields_of row.now) }
     ensures fits { IfOk result (Fits (text_of plan.now)) }
 {
-    count_in(5, k, row)?;
-    let node = node_at(k, row, 1)?;
-    let from = number_at(k, row, 2)?;
-    let to = number_at(k, row, 3)?;
-    let inc = number_at(k, row, 4)?;
-    let who = who_in(plan, k, node)?;
-    let span = span_in(quanta, k, from, to)?;
-    let value = value_within(plan.text().lo, plan.text().hi, k, inc)?;
+    let text = plan.text();
+    let (who, span, inc) = node_fields(plan, quanta, text.lo, text.hi, k, row)?;
     Ok(Line {
-        kind: Kind::Drift(who),
         span,
-        value,
+        setting: Setting::Drift { node: who, inc },
     })
 }
 
@@ -40,19 +62,35 @@ fn tick_at(plan: &Plan, quanta: u32, k: u32, row: &ByteRecord) -> Result<Line, S
     ensures value { result ≡ tick_at (text_of plan.now) quanta k (fields_of row.now) }
     ensures fits { IfOk result (Fits (text_of plan.now)) }
 {
-    count_in(5, k, row)?;
-    let node = node_at(k, row, 1)?;
-    let from = number_at(k, row, 2)?;
-    let to = number_at(k, row, 3)?;
-    let gap = number_at(k, row, 4)?;
-    let who = who_in(plan, k, node)?;
-    let span = span_in(quanta, k, from, to)?;
-    let value = value_within(1, plan.text().tick, k, gap)?;
+    let (who, span, gap) = node_fields(plan, quanta, 1, plan.text().tick, k, row)?;
     Ok(Line {
-        kind: Kind::Tick(who),
         span,
-        value,
+        setting: Setting::Tick { node: who, gap },
     })
+}
+
+/// SENDER,RECEIVER,FROM,TO,VALUE of record `k`: from whom, to whom, in which quanta, and the number as
+/// it stands there.
+#[tactic(auto, unfolding(crate::specs::Reading::beacon_fields))]
+fn beacon_fields(
+    plan: &Plan,
+    quanta: u32,
+    k: u32,
+    row: &ByteRecord,
+) -> Result<(Who, Who, Span, u64), ScriptFault>
+    ensures { result ≡ beacon_fields (text_of plan.now) quanta k (fields_of row.now) }
+{
+    count_in(6, k, row)?;
+    let first = node_at(k, row, 1)?;
+    let second = node_at(k, row, 2)?;
+    let from = number_at(k, row, 3)?;
+    let to = number_at(k, row, 4)?;
+    let number = number_at(k, row, 5)?;
+    let sender = who_in(plan, k, first)?;
+    let receiver = who_in(plan, k, second)?;
+    edge_in(plan, k, sender, receiver)?;
+    let span = span_in(quanta, k, from, to)?;
+    Ok((sender, receiver, span, number))
 }
 
 /// delay,SENDER,RECEIVER,FROM,TO,D
@@ -68,21 +106,15 @@ fn delay_at(
     ensures value { result ≡ delay_at (text_of plan.now) quanta k (fields_of row.now) }
     ensures fits { IfOk result (Fits (text_of plan.now)) }
 {
-    count_in(6, k, row)?;
-    let first = node_at(k, row, 1)?;
-    let second = node_at(k, row, 2)?;
-    let from = number_at(k, row, 3)?;
-    let to = number_at(k, row, 4)?;
-    let delay = number_at(k, row, 5)?;
-    let sender = who_in(plan, k, first)?;
-    let receiver = who_in(plan, k, second)?;
-    edge_in(plan, k, sender, receiver)?;
-    let span = span_in(quanta, k, from, to)?;
-    let value = delay_in(plan, links, k, sender, receiver, delay)?;
+    let (sender, receiver, span, delay) = beacon_fields(plan, quanta, k, row)?;
+    let delay = delay_in(plan, links, k, sender, receiver, delay)?;
     Ok(Line {
-        kind: Kind::Delay(sender, receiver),
         span,
-        value,
+        setting: Setting::Delay {
+            from: sender,
+            to: receiver,
+            quanta: delay,
+        },
     })
 }
 
@@ -92,21 +124,15 @@ fn loss_at(plan: &Plan, quanta: u32, k: u32, row: &ByteRecord) -> Result<Line, S
     ensures value { result ≡ loss_at (text_of plan.now) quanta k (fields_of row.now) }
     ensures fits { IfOk result (Fits (text_of plan.now)) }
 {
-    count_in(6, k, row)?;
-    let first = node_at(k, row, 1)?;
-    let second = node_at(k, row, 2)?;
-    let from = number_at(k, row, 3)?;
-    let to = number_at(k, row, 4)?;
-    let flag = number_at(k, row, 5)?;
-    let sender = who_in(plan, k, first)?;
-    let receiver = who_in(plan, k, second)?;
-    edge_in(plan, k, sender, receiver)?;
-    let span = span_in(quanta, k, from, to)?;
-    let value = value_within(0, 1, k, flag)?;
+    let (sender, receiver, span, flag) = beacon_fields(plan, quanta, k, row)?;
+    let is_lost = flag_in(k, flag)?;
     Ok(Line {
-        kind: Kind::Loss(sender, receiver),
         span,
-        value,
+        setting: Setting::Loss {
+            from: sender,
+            to: receiver,
+            is_lost,
+        },
     })
 }
 
@@ -146,7 +172,7 @@ pub(crate) fn line_at(
     ensures fits { IfOk result (Fits (text_of plan.now)) }
 {
     texts_in(k, row)?;
-    require(k != 4097, ScriptFault::Large)?;
+    require(k <= MOST_RECORDS, ScriptFault::Large)?;
     let word = word_at(k, row)?;
     line_of(plan, links, quanta, k, row, word)
 }

@@ -4,12 +4,12 @@ ghost use Rattle.gs_plan.specs.Edges.{edge_text};
 ghost use Rattle.gs_plan.specs.Plans.{text_of};
 ghost use Rattle.gs_plan.specs.Shapes.{graph_of_text};
 ghost use Rattle.gs_script.specs.Checks.{is_large};
-ghost use Rattle.gs_script.specs.Kept.{Fits, way_of};
+ghost use Rattle.gs_script.specs.Kept.{Fits, node_of, way_of};
 ghost use Rattle.gs_script.specs.Script.{IsScript, delay_of, gap_of, inc_of, is_lost, least_delay};
 
-use crate::copy::text_copy;
 use crate::kept::{Node, Sender, Way, nodes_and_senders};
 use crate::line::Line;
+use crate::record::MOST_RECORDS;
 use gs_plan::Plan;
 use gs_planfile::PlanText;
 use std::alloc::{AllocError, Global};
@@ -49,7 +49,7 @@ impl Script {
         quanta: u32,
         lines: Vec<Line>,
     ) -> Result<Self, AllocError>
-        requires few { length lines.items ≤ 4096 }
+        requires few { length lines.items ≤ MOST_RECORDS }
         requires fits { All (Fits (text_of plan.now)) lines.items }
         requires small { is_large (text_of plan.now) quanta ≡ false }
         ensures value { IfOk result (λ script.
@@ -57,7 +57,7 @@ impl Script {
         ensures within { IfOk result IsScript }
     {
         let (nodes, senders) = nodes_and_senders(alloc, plan, &lines)?;
-        let text = text_copy(alloc, plan.text())?;
+        let text = plan.text().copy(alloc)?;
         Ok(Script {
             text,
             quanta,
@@ -75,6 +75,15 @@ impl Script {
         self.quanta
     }
 
+    /// What is kept of a node.
+    #[tactic(auto, using(crate::proofs::Keeping::kept_nodes))]
+    fn node(&self, v: u32) -> &Node
+        requires { v < (graph_of_text self.now.text).nodes }
+        ensures { result.now ≡ node_of self.now.lines v }
+    {
+        &self.nodes[v as usize]
+    }
+
     /// What the hardware clock of `v` advances by in quantum `t`, in clock units.
     pub fn inc(&self, v: u32, t: u32) -> u32
         requires { v < (graph_of_text self.now.text).nodes }
@@ -82,8 +91,8 @@ impl Script {
         ensures low { self.now.text.lo ≤ result }
         ensures high { result ≤ self.now.text.hi }
     {
-        let drifts = &self.nodes[v as usize].drifts;
-        drifts.value_in(&self.lines, t).unwrap_or(self.text.lo)
+        let drifts = &self.node(v).drifts;
+        drifts.inc(&self.lines, t).unwrap_or(self.text.lo)
     }
 
     /// The gap between ticks that is asked of `v` in quantum `t`, in quanta.
@@ -93,8 +102,8 @@ impl Script {
         ensures low { 1 ≤ result }
         ensures high { result ≤ self.now.text.tick }
     {
-        let ticks = &self.nodes[v as usize].ticks;
-        ticks.value_in(&self.lines, t).unwrap_or(self.text.tick)
+        let ticks = &self.node(v).ticks;
+        ticks.gap(&self.lines, t).unwrap_or(self.text.tick)
     }
 
     /// What is kept of the way from a node to a neighbour.
@@ -119,7 +128,7 @@ impl Script {
         ensures high { result ≤ (edge_text self.now.text (from, to)).delay_max }
     {
         let way = self.way(from, to);
-        way.delays.value_in(&self.lines, t).unwrap_or(way.least)
+        way.delays.delay(&self.lines, t).unwrap_or(way.least)
     }
 
     /// Whether a beacon that `from` sends to its neighbour `to` in quantum `t` is lost.
@@ -130,6 +139,6 @@ impl Script {
         ensures { result ≡ is_lost self.now from to t }
     {
         let way = self.way(from, to);
-        way.losses.value_in(&self.lines, t).unwrap_or(0) == 1
+        way.losses.is_lost(&self.lines, t).unwrap_or(false)
     }
 }

@@ -1,6 +1,5 @@
 use Rattle.std.proofs.Common.{◌≡◌, filter, take}
-use Rattle.gs_script.specs.Kept.{is_at}
-use Rattle.gs_script.specs.Lines.{matches}
+use Rattle.gs_script.specs.Kept.{is_at, matches}
 use Rattle.gs_script.proofs.places.Places.of_topic.Given as goal
 
 abbrev pub invariant-loop-place : goal.invariant-loop-place

@@ -1,23 +1,16 @@
-use Rattle.std.proofs.Common.{◌∙◌, arith, subst}
-use Rattle.gs_plan.specs.Shapes.{graph_of_text}
-use Rattle.gs_script.specs.Kept.{node_of}
+use Rattle.std.proofs.Common.{◌∙◌, refl, subst}
+use Rattle.gs_script.specs.declared.line.Topic.TheVariants.{Drift}
+use Rattle.gs_script.specs.Kept.{inc_set}
+use Rattle.gs_script.specs.Lines.{inc_said}
 use Rattle.gs_script.specs.Script.{IsScript}
-use Rattle.gs_script.proofs.Keeping.{drift_said, node_at}
+use Rattle.gs_script.proofs.Latest.{inc_read, kept_says}
 use Rattle.gs_script.proofs.script.Script.inc.Goals as goal
-
-pub index-requires : goal.index-requires
-index-requires c =
-    let s = c.self.inside in
-    let inside = rw (← c.self.view_is) at c.requires in
-    let there = (node_at s.lines.items (graph_of_text s.text).nodes c.args.v s.nodes.items (node_of s.lines.items c.args.v) c.self.invariant.nodes inside).0 in
-    omega (arith, there, s.nodes.ok.0)
 
 pub returns-clause-value : goal.returns-clause-value
 returns-clause-value c =
-    let s = c.self.inside in
-    let inside = rw (← c.self.view_is) at c.requires in
-    let said = drift_said s.lines.items (graph_of_text s.text).nodes c.args.v c.args.t s.text.lo s.nodes.items c.index.result.now c.self.invariant.nodes inside in
-    rw (← c.self.view_is) (c.unwrap_or.ensures ∙ rw (c.value_in.ensures, c.deref.ensures.value) (rw (← c.index.ensures) at said))
+    let node = rw (← c.self.view_is) at c.node.ensures in
+    let said = kept_says (Drift c.args.v) (inc_said c.args.v) inc_set c.args.t c.self.inside.lines.items (inc_read c.args.v) in
+    rw (← c.self.view_is) (c.unwrap_or.ensures ∙ rw (c.inc.ensures, c.deref.ensures.value, node, said) refl)
 
 pub returns-clause-low : goal.returns-clause-low
 returns-clause-low c = rw (returns-clause-value c) ((subst IsScript c.self.view_is c.self.invariant.script).inc_low c.args.v c.args.t)
