@@ -1,39 +1,33 @@
 -- What comes in a quantum: each beacon was sent before, over an edge, and is as old as its delay.
-use Rattle.std.proofs.Common.{◌≡◌, ℕ, zero, suc, ◌+◌, ◌<◌, ◌≤◌, inl, inr, arith, ap, sym, refl, ◌∙◌, List, length, Option, Some, None, Bool, true, false, nat_eq, nat_lt, position, Contains, get_or}
-use Rattle.std.specs.List.{range_with_len, position_or_len, AllByRecursion}
-use Rattle.std.proofs.lemmas.Bool.{eqb-true, eq-eqb, cases_Bool, ltb-false, cond-true, true≢false}
-use Rattle.std.proofs.lemmas.List.Sums.{fails_before_first}
+use Rattle.std.proofs.Common.{◌≡◌, ℕ, zero, suc, ◌+◌, ◌<◌, arith, refl, subst, length, Option, Some, None, Bool, true, false, nat_eq}
+use Rattle.std.specs.List.{AllByRecursion}
+use Rattle.std.proofs.lemmas.Bool.{eqb-true, eq-eqb, ne_eqb}
 use Rattle.std.proofs.lemmas.List.Quantifiers.{position-Some}
-use Rattle.gs_topo.proofs.Members.{Contains-filter, Contains-range}
+use Rattle.gs_topo.proofs.Nearer.{position_at}
 use Rattle.gs_core.specs.declared.event.Event.{Event}
 use Rattle.gs_core.specs.declared.event.Event.TheVariants.{Quantum, Tick, Deliver}
 use Rattle.gs_world.specs.Net.{Net, Adjacent, neighbours, neighbour, place_of}
+use Rattle.gs_world.proofs.Places.{place_of_neighbour}
 use Rattle.gs_play.specs.Course.{Course}
 use Rattle.gs_play.specs.Calendar.{sent_at, comes_at, if_comes, coming, arrivals}
 use Rattle.gs_play.specs.Events.{nodes_of, deliveries, deliveries_to}
 use Rattle.gs_play.proofs.Comings.{comes_when}
+use Rattle.gs_play.proofs.Lists.{ascend_at, ascending}
 use Rattle.gs_play.proofs.OneSeat.{all_deliveries}
 use Rattle.gs_play.proofs.Parts.{each_append, each_map, each_flat, each_weaker, each_kept, each_in_range}
 
 -- ---- places
 
--- what passes somewhere has a first place
-some_place : {X : Type 0} (p : X → Bool) (xs : List X) (x : X) → Contains xs x → p x ≡ true → position p xs ≡ Some (position_or_len p xs)
-some_place p xs x h passes = cond-true (nat_lt (position_or_len p xs) (length xs)) (Some (position_or_len p xs)) None (elim (cases_Bool (nat_lt (position_or_len p xs) (length xs))) [
-  | inl inside ↦ inside
-  | inr past ↦
-      let le : length xs ≤ position_or_len p xs = ltb-false (position_or_len p xs) (length xs) past in
-      let k : ℕ = h.0 in
-      let low : k < position_or_len p xs = (let a = h.1 in omega (arith, a, le)) in
-      let fails : p (get_or xs k x) ≡ false = fails_before_first p xs k x low in
-      absurd (true≢false (sym (ap p h.2 ∙ passes) ∙ fails))
-])
+-- each neighbour has its own, as neighbours ascend
+pub place_is_own : (net : Net) (v i : ℕ) → i < length (neighbours net v) → place_of net v (neighbour net v i) ≡ Some i
+place_is_own net v i h = position_at (λ y. nat_eq y (neighbour net v i)) (neighbours net v) i 0 h
+    (λ k less. ne_eqb (neighbour net v k) (neighbour net v i) (λ e. let up = ascend_at (neighbours net v) k i (ascending (net.adjacent v) 0 net.nodes) less h in omega (arith, up, e)))
+    (eq-eqb (neighbour net v i) (neighbour net v i) refl)
 
--- a neighbour has a place
-pub place_of_neighbour : (net : Net) (v x : ℕ) → x < net.nodes → Adjacent net v x → (i : ℕ) × (place_of net v x ≡ Some i)
-place_of_neighbour net v x inside near =
-    let member : Contains (neighbours net v) x = Contains-filter (net.adjacent v) (range_with_len 0 net.nodes) x near (Contains-range 0 net.nodes x (omega arith) (omega arith)) in
-    (position_or_len (λ y. nat_eq y x) (neighbours net v), some_place (λ y. nat_eq y x) (neighbours net v) x member (eq-eqb x x refl))
+pub neighbour_has_place : (net : Net) (v x : ℕ) → x < net.nodes → Adjacent net v x → (i : ℕ) × (place_of net v x ≡ Some i)
+neighbour_has_place net v x inside near =
+    let at = place_of_neighbour net v x inside near in
+    (at.0, subst (λ (y : ℕ). place_of net v y ≡ Some at.0) at.2 (place_is_own net v at.0 at.1))
 
 pub place_is_inside : (net : Net) (v x i : ℕ) → place_of net v x ≡ Some i → (i < length (neighbours net v)) × (neighbour net v i ≡ x)
 place_is_inside net v x i e =

@@ -12,19 +12,23 @@ use Rattle.gs_world.specs.Net.{Net}
 use Rattle.gs_world.specs.Nets.{net_of}
 use Rattle.gs_play.specs.declared.transit.Key.{Key}
 use Rattle.gs_play.specs.declared.turn.Turn.{Turn}
-use Rattle.gs_play.specs.Course.{Course, IsCourse, course_of}
+use Rattle.gs_play.specs.Course.{Course, course_of}
 use Rattle.gs_play.specs.Calendar.{first_turn, sent_at, ticks}
 use Rattle.gs_play.specs.Due.{due_by, due_after}
 use Rattle.gs_play.specs.Events.{deliveries_to, events_from, events_of, incs_at, nodes_of, ticks_at}
-use Rattle.gs_play.specs.Transits.{Has, AreInOrder, IsCovering, IsTransit}
-use Rattle.gs_play.specs.Feeds.{incs_below, AllSent, AreCovering, AreTurns, Grows, IsFeed, IsReadFor, deliver_all, deliveries_left, left_of, ticks_left, turn_in, waiting}
+use Rattle.gs_play.specs.Transits.{Has, AreInOrder, IsCovering}
+use Rattle.gs_play.specs.Feeds.{AllSent, AreTurns, Grows, IsFeed, IsReadFor, deliver_all, deliveries_left, left_of, ticks_left, turn_in, waiting}
 use Rattle.gs_play.proofs.Feeding.{all_left, covers_later, deliveries_end, flat_same, none_after}
-use Rattle.gs_play.proofs.Fitting.{fits}
-use Rattle.gs_play.proofs.Growing.{all_sent, grows_covers}
+use Rattle.gs_play.proofs.Fitting.{IsCourse, fits}
+use Rattle.gs_play.proofs.Growing.{AreCovering, all_sent, grows_covers}
 use Rattle.gs_play.proofs.OnTheWay.{neighbour_is, said_node}
 use Rattle.gs_play.proofs.Ticking.{ticks_end}
 use Rattle.gs_play.proofs.Turns.{ticks_is}
-use Rattle.gs_play.proofs.Waiting.{AreSlow, next_deliveries, transit_covers, transit_rest}
+use Rattle.gs_play.proofs.Waiting.{AreSlow, IsTransit, next_deliveries, transit_covers, transit_rest}
+
+-- what the hardware clocks of the first n nodes add in quantum t
+unfoldable pub incs_below : Course → ℕ → ℕ → List ℕ
+incs_below c t n = map (λ v. c.inc v t) (range_with_len 0 n)
 
 -- the increments, node by node
 pub incs_none : (c : Course) (t : ℕ) → incs_below c t 0 ≡ []

@@ -13,11 +13,12 @@ use Rattle.gs_world.specs.declared.refused.Refused.{Refused}
 use Rattle.gs_world.specs.declared.refused.Refused.TheVariants.{Stale}
 use Rattle.gs_play.specs.Breach.{Breach, breach_of, breach_in, first_breach}
 use Rattle.gs_play.specs.Calm.{IsCalm, Calm}
-use Rattle.gs_play.specs.Course.{Course, IsCourse}
+use Rattle.gs_play.specs.Course.{Course}
 use Rattle.gs_play.specs.Events.{events_of}
 use Rattle.gs_play.specs.Laws.{IsFirstRefusal}
 use Rattle.gs_play.specs.Played.{start_of, breach_of_course}
 use Rattle.gs_play.proofs.Calm.{scripts_are_calm}
+use Rattle.gs_play.proofs.Fitting.{IsCourse}
 
 -- ---- one event
 

@@ -12,16 +12,17 @@ use Rattle.gs_world.specs.Run.{run}
 use Rattle.gs_world.specs.Why.{why, why_sent, drifts, is_due_at, stale_place, stale_at, stale_of}
 use Rattle.gs_world.specs.Accepted.{AreNumbers}
 use Rattle.gs_world.specs.declared.refused.Refused.TheVariants.{Stale}
-use Rattle.gs_play.specs.Course.{Course, IsCourse}
+use Rattle.gs_play.specs.Course.{Course}
 use Rattle.gs_play.specs.Calendar.{turn, ticks}
 use Rattle.gs_play.specs.Events.{nodes_of, incs_at, ticks_at, quantum_at, events_upto, events_of}
 use Rattle.gs_play.specs.Played.{start_of}
 use Rattle.gs_play.specs.Calm.{IsCalm, Calm}
+use Rattle.gs_play.proofs.Fitting.{IsCourse}
 use Rattle.gs_play.proofs.Parts.{each_weaker, each_kept, each_in_range}
 use Rattle.gs_play.proofs.OneSeat.{IsQuietWorld, run_is_quiet, all_deliveries, begun, begins}
 use Rattle.gs_play.proofs.Agree.{IsCalendar, HasMail, Listens, quiet_listens, begun_listens, world_at, run_agrees, start_is_calendar}
 use Rattle.gs_play.proofs.Turns.{not_due as turn_is_young}
-use Rattle.gs_play.proofs.Arrivals.{Arrives, IsArrival, place_of_neighbour, all_arrive}
+use Rattle.gs_play.proofs.Arrivals.{Arrives, IsArrival, neighbour_has_place, all_arrive}
 
 pub calm_more : (net : Net) (w : World) (xs ys : List Event) → Calm net w xs → Calm net (run net w xs) ys → Calm net w (xs ++ ys)
 calm_more net w [] ys h k = k
@@ -52,7 +53,7 @@ in_time net c w from to seq i t s numbers course quanta a same =
 calm_delivery : (net : Net) (c : Course) (t : ℕ) (w : World) (from to seq : ℕ) → AreNumbers net → IsCourse net c → Listens net c t w → Arrives net c (suc t) from to seq → why net w (Deliver from to seq) ≡ None
 calm_delivery net c t w from to seq numbers course h a =
     let node : nat_le net.nodes to ≡ false = lt-leb net.nodes to a.node in
-    let place = place_of_neighbour net to from a.sender a.near in
+    let place = neighbour_has_place net to from a.sender a.near in
     let before = a.aged.before in
     let mail : HasMail from (member w from).sent a.quantum seq = (h.each from a.sender).mails a.quantum seq (omega (arith, before)) a.aged.sent in
     let sent : sent_by w from seq ≡ Some mail.0 = mail.1 in

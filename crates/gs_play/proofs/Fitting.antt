@@ -1,5 +1,5 @@
 -- A script that was read for a plan keeps the bounds of the plan's net.
-use Rattle.std.proofs.Common.{◌≡◌, ℕ, ◌≤◌, arith, ap, sym, ◌∙◌, subst, get_or}
+use Rattle.std.proofs.Common.{◌≡◌, ℕ, ◌^◌, ◌≤◌, arith, ap, sym, ◌∙◌, subst, get_or}
 use Rattle.gs_topo.specs.Graph.{Graph, adjacent, joins}
 use Rattle.gs_topo.specs.Graph as graph
 use Rattle.gs_planfile.specs.declared.text.PlanText.{PlanText}
@@ -11,9 +11,20 @@ use Rattle.gs_plan.specs.Shapes.{graph_of_text}
 use Rattle.gs_plan.proofs.Linking.{has_number, text_at}
 use Rattle.gs_plan.proofs.Telling.{plan_accepted}
 use Rattle.gs_script.specs.Script.{Said, IsScript, least_delay}
-use Rattle.gs_world.specs.Net.{Adjacent}
+use Rattle.gs_world.specs.Net.{Net, Adjacent}
 use Rattle.gs_world.specs.Nets.{net_of}
-use Rattle.gs_play.specs.Course.{IsCourse, course_of}
+use Rattle.gs_play.specs.Course.{Course, course_of}
+
+-- a course keeps the bounds of a net, and a beacon takes at least one quantum
+pub record IsCourse (net : Net) (c : Course) : Type 0 where
+  pub inc_low : (v t : ℕ) → net.rate.lo ≤ c.inc v t
+  pub inc_high : (v t : ℕ) → c.inc v t ≤ net.rate.hi
+  pub gap_low : (v t : ℕ) → 1 ≤ c.gap v t
+  pub gap_high : (v t : ℕ) → c.gap v t ≤ net.tick
+  pub delay_some : (from to t : ℕ) → Adjacent net from to → 1 ≤ c.delay from to t
+  pub delay_low : (from to t : ℕ) → Adjacent net from to → net.soonest from to ≤ c.delay from to t
+  pub delay_high : (from to t : ℕ) → Adjacent net from to → c.delay from to t ≤ net.latest from to
+  pub short : c.quanta ≤ 2 ^ 20
 
 -- the edges of the script's text are the plan's
 same_graph : (p : Plan) (s : Said) → s.text ≡ text_of p → graph_of_text s.text ≡ graph_of p

@@ -8,11 +8,15 @@ use Rattle.gs_play.specs.declared.transit.Key.{Key}
 use Rattle.gs_play.specs.Course.{Course}
 use Rattle.gs_play.specs.Calendar.{sent_at}
 use Rattle.gs_play.specs.Due.{key_cmp}
-use Rattle.gs_play.specs.Transits.{Has, AreInOrder, InTransit, IsTransit}
-use Rattle.gs_play.specs.Feeds.{waiting, AreCovering, HasSent, HasSentAll, Grows}
+use Rattle.gs_play.specs.Transits.{Has, AreInOrder, InTransit, IsCovering}
+use Rattle.gs_play.specs.Feeds.{waiting, HasSent, HasSentAll, Grows}
 use Rattle.gs_play.proofs.Comings.{comes_when}
 use Rattle.gs_play.proofs.Placed.{has_insert, insert_has, insert_in_order}
-use Rattle.gs_play.proofs.Waiting.{cover_full}
+use Rattle.gs_play.proofs.Waiting.{IsTransit, cover_full}
+
+-- all that was sent by quantum t and is due later is kept, and beside it only beacons of the next quantum
+abbrev pub AreCovering : Net → Course → ℕ → List (List Key) → Type 0
+AreCovering net c t lists = (v : ℕ) → v < net.nodes → IsCovering net c v t (waiting lists v)
 
 pub grows_refl : (net : Net) (c : Course) (t : ℕ) (lists : List (List Key)) → Grows net c t lists lists
 grows_refl net c t lists = record { same = refl; order = λ v o. o; keeps = λ v k h. h; only = λ v k h. inl h }

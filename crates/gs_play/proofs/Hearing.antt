@@ -3,9 +3,7 @@ use Rattle.std.proofs.Common.{◌≡◌, ◌≢◌, ℕ, zero, suc, ◌+◌, ◌
 use Rattle.std.specs.List.{AllByRecursion, flat_map, range_with_len}
 use Rattle.std.proofs.lemmas.List.{get_or-map, length-map}
 use Rattle.std.proofs.lemmas.List.Concat.{flat_map-append}
-use Rattle.std.proofs.lemmas.List.Elements.{All-filter, filter_passes}
 use Rattle.std.proofs.lemmas.Option.{same_Some}
-use Rattle.gs_topo.proofs.Members.{range_below}
 use Rattle.gs_units.specs.declared.params.Link.{Link}
 use Rattle.gs_estimate.specs.Entries.{entry_at}
 use Rattle.gs_estimate.specs.declared.slots.Entry.{Entry}
@@ -15,6 +13,7 @@ use Rattle.gs_core.specs.declared.event.Event.TheVariants.{Quantum, Tick, Delive
 use Rattle.gs_world.specs.Net.{Net, Adjacent, params_of, link_of, neighbours, neighbour, place_of}
 use Rattle.gs_world.specs.World.{World, Member, Sent, member, with_member, heard_member, sent_by, effect, member_at_start, world_from}
 use Rattle.gs_world.specs.Run.{run}
+use Rattle.gs_world.proofs.Places.{neighbour_is_next, neighbour_is_node}
 use Rattle.gs_play.specs.Course.{Course}
 use Rattle.gs_play.specs.Calendar.{Newest, newer, newest, none_heard, heard_at, ticks, arrivals}
 use Rattle.gs_play.specs.Events.{deliveries, deliveries_to, quantum_at}
@@ -22,15 +21,9 @@ use Rattle.gs_play.proofs.Parts.{each_map, each_flat, each_weaker, each_any, eac
 use Rattle.gs_play.proofs.Counting.{newest_in, same_newest, link_place_is, hears_newer, hears_elsewhere}
 use Rattle.gs_play.proofs.OneSeat.{IsDelivery, IsQuietWorld, all_elsewhere, run_more, run_is_quiet, member_same, begun, begun_member, listened, listened_member, ticked_if, quantum_member, elsewhere_keeps, are_deliveries, deliveries_from}
 use Rattle.gs_play.proofs.Agree.{HasMail, IsCalendar, Listens, begun_listens, quiet_listens, world_at, world_next, run_agrees, start_member}
-use Rattle.gs_play.proofs.Arrivals.{IsAged, Arrives, arrivals_are_aged, place_of_neighbour, place_is_inside}
+use Rattle.gs_play.proofs.Arrivals.{IsAged, Arrives, arrivals_are_aged, neighbour_has_place, place_is_inside}
 
 -- ---- places
-
-pub neighbour_is_node : (net : Net) (v i : ℕ) → i < length (neighbours net v) → neighbour net v i < net.nodes
-neighbour_is_node net v i h = let inside = All-filter (net.adjacent v) (λ x. (0 ≤ x) × (x < 0 + net.nodes)) (range_with_len 0 net.nodes) (range_below 0 net.nodes) i 0 h in omega (arith, inside)
-
-pub neighbour_is_next : (net : Net) (v i : ℕ) → i < length (neighbours net v) → Adjacent net v (neighbour net v i)
-neighbour_is_next net v i h = filter_passes (net.adjacent v) (range_with_len 0 net.nodes) i 0 h
 
 -- two neighbours have two places
 places_apart : (net : Net) (v x y i j : ℕ) → place_of net v x ≡ Some i → place_of net v y ≡ Some j → y ≢ x → i ≢ j
@@ -51,7 +44,7 @@ pub record IsHeardOver (net : Net) (w : World) (from to seq quantum : ℕ) : Typ
 
 pub delivery_is : (net : Net) (c : Course) (t : ℕ) (w : World) (from to seq : ℕ) → Listens net c t w → (a : Arrives net c (suc t) from to seq) → IsHeardOver net w from to seq a.quantum
 delivery_is net c t w from to seq h a =
-    let place = place_of_neighbour net to from a.sender a.near in
+    let place = neighbour_has_place net to from a.sender a.near in
     let before = a.aged.before in
     let mail : HasMail from (member w from).sent a.quantum seq = (h.each from a.sender).mails a.quantum seq (omega (arith, before)) a.aged.sent in
     let new : Member = heard_member (params_of net to) place.0 mail.0 (member w to) in

@@ -1,8 +1,8 @@
 -- A script without a breach keeps the bounds of its plan, and so does its report.
-use Rattle.std.proofs.Common.{◌≡◌, ℕ, ◌+◌, ◌-◌, ◌*◌, ◌<◌, ◌≤◌, arith, refl, subst, List, [], All, length, map, get_or}
+use Rattle.std.proofs.Common.{◌≡◌, ℕ, ◌+◌, ◌-◌, ◌*◌, ◌<◌, ◌≤◌, arith, refl, List, [], All, length, map, get_or}
 use Rattle.std.proofs.Math.Nat.{mul-le-mul_left}
 use Rattle.std.proofs.lemmas.Bool.{eq-eqb}
-use Rattle.std.proofs.lemmas.List.{get_or_default, get_or-map, length-map}
+use Rattle.std.proofs.lemmas.List.{get_or-map, length-map}
 use Rattle.std.proofs.lemmas.List.Elements.{All-map}
 use Rattle.std.proofs.lemmas.List.Folds.{list_any_at}
 use Rattle.std.proofs.lemmas.List.FromFn.{get_or-map-range_with_len, length-map-range_with_len}
@@ -27,7 +27,7 @@ use Rattle.gs_world.specs.Run.{Allowed, ends}
 use Rattle.gs_world.specs.World.{World, clocks_in}
 use Rattle.gs_world.proofs.Budgets.{budget_kept}
 use Rattle.gs_world.proofs.Keeping.{nowhere}
-use Rattle.gs_world.proofs.PlanNumbers.{plan_has_numbers}
+use Rattle.gs_world.proofs.PlanNumbers.{level_is, plan_has_numbers, skew_is}
 use Rattle.gs_world.proofs.Theorems.{always_bounded, ends_bounded}
 use Rattle.gs_play.specs.Course.{Course, course_of}
 use Rattle.gs_play.specs.Events.{events_of, nodes_of}
@@ -35,7 +35,7 @@ use Rattle.gs_play.specs.Kept.{IsWithinBounds, KeepsBounds, ScriptsKeepBounds}
 use Rattle.gs_play.specs.Played.{report_in, start_of}
 use Rattle.gs_play.specs.Scripts.{}
 use Rattle.gs_play.proofs.Breaches.{unbreached_script_is_allowed}
-use Rattle.gs_play.proofs.Bridges.{kappa_below, level_is, skew_is}
+use Rattle.gs_play.proofs.Bridges.{kappa_below}
 use Rattle.gs_play.proofs.Fitting.{fits}
 
 -- ---- runs
@@ -54,14 +54,6 @@ allowed_keeps net es numbers allowed =
     }
 
 -- ---- rows
-
--- the worlds that a report is made of are bounded
-each_end : (net : Net) (es : List Event) → AreNumbers net → Allowed net (start_of net) es
-    → All (Bounded net) (ends net (start_of net) es)
-each_end net es numbers allowed k d h =
-    let total : List World = ends net (start_of net) es in
-    let bounded = ends_bounded net (map (λ v. 0) (nodes_of net)) 0 es numbers allowed k h in
-    subst (λ (w : World). Bounded net w) (get_or_default total k nowhere d h) bounded
 
 -- the ends of an edge are nodes that are neighbours
 edge_joins : (g : Graph) (k : ℕ) (d : ℕ × ℕ) → k < length g.edges
@@ -99,7 +91,7 @@ within_bounds p es numbers allowed =
     let net : Net = net_of p in
     let total : List World = ends net (start_of net) es in
     let rows : List (List ℕ) = map (clocks_in net) total in
-    let each : All (Bounded net) total = each_end net es numbers allowed in
+    let each : All (Bounded net) total = ends_bounded net (map (λ v. 0) (nodes_of net)) 0 es numbers allowed in
     let skew = skew_is t g (rate_of p) p.rates in
     let globals : All (λ row. global_skew row ≤ global_in t g) rows =
     All-map (λ row. global_skew row ≤ global_in t g) (clocks_in net) total (λ k d h.

@@ -13,13 +13,17 @@ pub mod Lists
 pub mod Sorted
 pub mod Turns
 pub mod Comings
+pub mod Fresh
+pub mod OnTime
 pub mod Waiting
 pub mod Placed
 pub mod Growing
+pub mod InTurn
 pub mod Ticking
 pub mod Fitting
 pub mod Bridges
 pub mod Keeping
+pub mod FewLosses
 pub mod OnTheWay
 pub mod Feeding
 pub mod Beginning

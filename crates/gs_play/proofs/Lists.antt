@@ -1,5 +1,5 @@
 -- Membership in lists, and lists of numbers that ascend.
-use Rattle.std.proofs.Common.{◌≡◌, ℕ, zero, suc, ◌+◌, ◌<◌, ◌≤◌, Bool, true, false, cond, ◌⊎◌, inl, inr, arith, refl, ap, List, [], ◌∷◌, ◌++◌, filter}
+use Rattle.std.proofs.Common.{◌≡◌, ℕ, zero, suc, ◌+◌, ◌<◌, ◌≤◌, Bool, true, false, cond, ◌⊎◌, inl, inr, arith, refl, ap, List, [], ◌∷◌, ◌++◌, filter, length, slice_index, slice_index_or}
 use Rattle.std.specs.List.{range_with_len}
 use Rattle.std.proofs.lemmas.Bool.{cases_Bool}
 use Rattle.gs_play.specs.Transits.{Has}
@@ -18,6 +18,12 @@ pub has_right : {X : Type 0} (xs ys : List X) (e : X) → Has e ys → Has e (xs
 unfolding Has
 has_right [] ys e h = h
 has_right (x ∷ xs) ys e h = inr (has_right xs ys e h)
+
+pub has_at : {X : Type 0} (xs : List X) (i : ℕ) (d : X) → i < length xs → Has (slice_index_or xs i d) xs
+unfolding Has
+has_at [] i d h = absurd (omega arith)
+has_at (x ∷ xs) zero d h = inl refl
+has_at (x ∷ xs) (suc i) d h = inr (has_at xs i d (omega arith))
 
 -- ---- ranges and what is left of them
 pub has_range : (a n x : ℕ) → Has x (range_with_len a n) → (a ≤ x) × (x < a + n)
@@ -71,3 +77,11 @@ filter_ascends p (x ∷ xs) a = elim (cases_Bool (p x)) [
 
 pub ascending : (p : ℕ → Bool) (a n : ℕ) → Ascend (filter p (range_with_len a n))
 ascending p a n = filter_ascends p (range_with_len a n) (range_ascends a n)
+
+-- so does the one at each place and all at later ones
+pub ascend_at : (xs : List ℕ) (k i : ℕ) → Ascend xs → k < i → i < length xs → slice_index xs k < slice_index xs i
+unfolding Ascend
+ascend_at [] k i up less inside = absurd (omega arith)
+ascend_at (x ∷ xs) k zero up less inside = absurd (omega arith)
+ascend_at (x ∷ xs) zero (suc i) up less inside = up.0 (slice_index xs i) (has_at xs i 0 (omega arith))
+ascend_at (x ∷ xs) (suc k) (suc i) up less inside = ascend_at xs k i up.1 (omega arith) (omega arith)

@@ -1,5 +1,5 @@
 -- The beacons of a quantum are put on their way, receiver by receiver and sender by sender.
-use Rattle.std.proofs.Common.{◌≡◌, ℕ, zero, suc, ◌+◌, ◌<◌, ◌≤◌, ◌^◌, Bool, true, false, cond, inl, inr, arith, refl, ap, sym, ◌∙◌, subst, List, [], ◌∷◌, length, slice_index, slice_index_or, slice_set, Some}
+use Rattle.std.proofs.Common.{◌≡◌, ℕ, suc, ◌+◌, ◌<◌, ◌≤◌, ◌^◌, Bool, true, false, cond, inl, inr, arith, ap, sym, ◌∙◌, subst, List, [], ◌∷◌, length, slice_index, slice_index_or, slice_set, Some}
 use Rattle.std.specs.List.{range_with_len}
 use Rattle.std.proofs.lemmas.Bool.{cases_eq}
 use Rattle.std.specs.BTreeSet.{insert_key}
@@ -13,23 +13,17 @@ use Rattle.gs_script.specs.Script.{Said, delay_of}
 use Rattle.gs_world.specs.Net.{Net, Adjacent, neighbours}
 use Rattle.gs_world.specs.Nets.{net_of}
 use Rattle.gs_play.specs.declared.transit.Key.{Key}
-use Rattle.gs_play.specs.Course.{Course, IsCourse, course_of}
+use Rattle.gs_play.specs.Course.{Course, course_of}
 use Rattle.gs_play.specs.Calendar.{sent_at}
 use Rattle.gs_play.specs.Due.{key_cmp}
 use Rattle.gs_play.specs.Transits.{Has}
 use Rattle.gs_play.specs.Feeds.{waiting, Grows, HasSent, HasSentAll, IsReadFor, sent_to}
-use Rattle.gs_play.proofs.Fitting.{adjacent_said, fits, near, same_nodes}
+use Rattle.gs_play.proofs.Fitting.{IsCourse, adjacent_said, fits, near, same_nodes}
 use Rattle.gs_play.proofs.Growing.{grows_on, grows_put, grows_refl, lost_sent, none_sent, put_sent, sent_stays, sent_transit}
 use Rattle.gs_play.proofs.Turns.{other_sends, same_sends, turn_next, turn_within}
-use Rattle.gs_play.proofs.Lists.{filter_has, has_filter, has_range, range_has}
+use Rattle.gs_play.proofs.Lists.{filter_has, has_at, has_filter, has_range, range_has}
 
 -- ---- neighbours by their places
-pub has_at : {X : Type 0} (xs : List X) (i : ℕ) (d : X) → i < length xs → Has (slice_index_or xs i d) xs
-unfolding Has
-has_at [] i d h = absurd (omega arith)
-has_at (x ∷ xs) zero d h = inl refl
-has_at (x ∷ xs) (suc i) d h = inr (has_at xs i d (omega arith))
-
 pub at_has : {X : Type 0} (xs : List X) (x d : X) → Has x xs → (i : ℕ) × (i < length xs) × (slice_index_or xs i d ≡ x)
 unfolding Has
 at_has [] x d h = absurd h

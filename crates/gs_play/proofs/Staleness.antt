@@ -1,73 +1,32 @@
 -- The first breach of a script's events is the one that its calendar has: the least quantum, then the least receiver, then
 -- the least sender.
-use Rattle.std.proofs.Common.{◌≡◌, ℕ, zero, suc, ◌+◌, ◌<◌, ◌≤◌, ◌^◌, arith, ap, sym, refl, ◌∙◌, List, [], ◌∷◌, ◌++◌, length, map, filter, Option, Some, None, is_some, Bool, not, nat_le, nat_eq, get_or, slice_index, position, AllPairs}
-use Rattle.std.specs.List.{range_with_len, prefix_len, AllByRecursion}
+use Rattle.std.proofs.Common.{◌≡◌, ℕ, zero, suc, ◌+◌, ◌<◌, ◌≤◌, ◌^◌, arith, ap, sym, refl, ◌∙◌, List, [], ◌∷◌, ◌++◌, length, map, filter, Option, Some, None, is_some, Bool, not, nat_le, get_or, slice_index, position}
+use Rattle.std.specs.List.{prefix_len, AllByRecursion}
 use Rattle.std.specs.Option.{option_or}
-use Rattle.std.proofs.lemmas.Bool.{eq-eqb, ne_eqb}
 use Rattle.std.proofs.lemmas.List.FromFn.{length-range_with_len, get_or-range_with_len}
-use Rattle.std.proofs.lemmas.List.Kept.{AllPairs-filter}
 use Rattle.std.proofs.lemmas.List.Quantifiers.{position-Some}
-use Rattle.gs_topo.proofs.Nearer.{position_at}
 use Rattle.gs_core.specs.declared.event.Event.{Event}
 use Rattle.gs_core.specs.declared.event.Event.TheVariants.{Quantum, Tick, Deliver}
-use Rattle.gs_world.specs.Net.{Net, neighbours, neighbour, place_of}
+use Rattle.gs_world.specs.Net.{Net, neighbours, neighbour}
 use Rattle.gs_world.specs.World.{World, nobody, member, effect}
 use Rattle.gs_world.specs.Run.{run}
 use Rattle.gs_world.specs.Why.{is_stale, stale_place, stale_at as stale_over, stale_of}
 use Rattle.gs_world.specs.Accepted.{AreNumbers}
 use Rattle.gs_play.specs.Breach.{Breach, breach_of, breach_in, first_breach}
-use Rattle.gs_play.specs.Course.{Course, IsCourse}
+use Rattle.gs_play.specs.Course.{Course}
 use Rattle.gs_play.specs.Calendar.{Newest, stale_at, ticks}
 use Rattle.gs_play.specs.Events.{nodes_of, incs_at, ticks_at, quantum_at, events_upto}
 use Rattle.gs_play.specs.Played.{start_of, breach_of_course}
+use Rattle.gs_play.specs.Stale.{first_stale, breach_over, breach_among, breach_at, breach_upto}
 use Rattle.gs_play.proofs.OneSeat.{IsDelivery, all_deliveries, are_deliveries}
 use Rattle.gs_play.proofs.Parts.{each_append, each_map, each_any, each_weaker}
 use Rattle.gs_play.proofs.Agree.{IsCalendar, world_at, run_agrees, start_is_calendar}
 use Rattle.gs_play.proofs.Hearing.{IsHeard, run_hears, start_is_heard}
+use Rattle.gs_play.proofs.Arrivals.{place_is_own}
 use Rattle.gs_play.proofs.Calm.{why_stale}
+use Rattle.gs_play.proofs.Fitting.{IsCourse}
 
--- ---- the calendar's first breach
-
--- the first place among v's neighbours for which quantum t is not allowed
-abbrev pub first_stale : Net → Course → ℕ → ℕ → Option ℕ
-first_stale net c t v = position (λ x. stale_at net c x v t) (neighbours net v)
-
-abbrev pub breach_over : Net → ℕ → ℕ → Option ℕ → Option Breach
-breach_over net t v None = None
-breach_over net t v (Some i) = Some (record { quantum = t; from = neighbour net v i; to = v })
-
--- the breach of quantum t at one receiver
-abbrev pub breach_to : Net → Course → ℕ → ℕ → Option Breach
-breach_to net c t v = breach_over net t v (first_stale net c t v)
-
-abbrev pub breach_among : Net → Course → ℕ → Option ℕ → Option Breach
-breach_among net c t None = None
-breach_among net c t (Some v) = breach_to net c t v
-
--- the breach of quantum t
-abbrev pub breach_at : Net → Course → ℕ → Option Breach
-breach_at net c t = breach_among net c t (position (λ v. is_some (first_stale net c t v)) (nodes_of net))
-
--- the first breach by quantum t
-abbrev pub breach_upto : Net → Course → ℕ → Option Breach
-breach_upto net c zero = None
-breach_upto net c (suc t) = option_or (breach_upto net c t) (breach_at net c (suc t))
-
--- ---- places
-
--- neighbours ascend
-neighbours_ascend : (net : Net) (v : ℕ) → AllPairs (λ a b. a < b) (neighbours net v)
-neighbours_ascend net v = AllPairs-filter (λ a b. a < b) (net.adjacent v) (range_with_len 0 net.nodes) (λ i j d less inside.
-    let high : j < net.nodes = rw (length-range_with_len 0 net.nodes) at inside in
-    let at_i = get_or-range_with_len 0 net.nodes i d (omega (arith, less, high)) in
-    let at_j = get_or-range_with_len 0 net.nodes j d high in
-    omega (arith, at_i, at_j, less))
-
--- so each has its own place
-pub place_is_own : (net : Net) (v i : ℕ) → i < length (neighbours net v) → place_of net v (neighbour net v i) ≡ Some i
-place_is_own net v i h = position_at (λ y. nat_eq y (neighbour net v i)) (neighbours net v) i 0 h
-    (λ k less. ne_eqb (neighbour net v k) (neighbour net v i) (λ e. let up = neighbours_ascend net v k i 0 less h in omega (arith, up, e)))
-    (eq-eqb (neighbour net v i) (neighbour net v i) refl)
+-- ---- first places
 
 -- two tests that agree place by place have the same first place
 prefix_same : {X Y : Type 0} (p : X → Bool) (q : Y → Bool) (xs : List X) (ys : List Y) (d : X) (e : Y) → length xs ≡ length ys → ((k : ℕ) → k < length xs → p (get_or xs k d) ≡ q (get_or ys k e))

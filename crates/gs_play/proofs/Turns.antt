@@ -34,7 +34,7 @@ ticked_rises every t u = by_gives u t (gives_next every u)
     by_gives u t true = omega arith
     by_gives u t false = omega arith
 
-turn_rises : (net : Net) (c : Course) (v t : ℕ) → (turn net c v t).seq ≤ (turn net c v (suc t)).seq
+pub turn_rises : (net : Net) (c : Course) (v t : ℕ) → (turn net c v t).seq ≤ (turn net c v (suc t)).seq
 turn_rises net c v t = elim (cases_Bool (ticks net c v (suc t))) [
   | inl e ↦ subst (λ (x : Turn). (turn net c v t).seq ≤ x.seq) (sym (turn_ticked net c v t e)) (ticked_rises net.every (suc t) (turn net c v t))
   | inr e ↦ subst (λ (x : Turn). (turn net c v t).seq ≤ x.seq) (sym (turn_stays net c v t e)) (omega arith)

@@ -11,10 +11,16 @@ use Rattle.gs_play.specs.Calendar.{coming, arrivals}
 use Rattle.gs_play.specs.Events.{deliveries, deliveries_to}
 use Rattle.gs_play.specs.Due.{due_by, due_after}
 use Rattle.gs_play.specs.Feeds.{deliver_all}
-use Rattle.gs_play.specs.Transits.{Has, Before, AllBehind, AreInOrder, Comes, InTransit, IsTransit, IsCovering}
+use Rattle.gs_play.specs.Transits.{Has, Before, AllBehind, AreInOrder, Comes, InTransit, IsCovering}
 use Rattle.gs_play.proofs.Lists.{has_more, has_left, has_right, Ascend, ascending}
 use Rattle.gs_play.proofs.Sorted.{behind_has, same_by_has, by_in_order, after_in_order, has_by, by_has, has_after, after_has}
 use Rattle.gs_play.proofs.Comings.{comes_later, coming_has, has_coming, SeqsRise, coming_rises}
+
+-- in order, all that is in transit and nothing else
+pub record IsTransit (net : Net) (c : Course) (v n a : ℕ) (ks : List Key) : Type 0 where
+  pub order : AreInOrder ks
+  pub only : (k : Key) → Has k ks → InTransit net c v n a k
+  pub all : (k : Key) → InTransit net c v n a k → Has k ks
 
 -- ---- the keys of what comes in quantum t
 unfoldable pub keys_from : ℕ → ℕ → List (ℕ × ℕ) → List Key

@@ -9,7 +9,9 @@ use Rattle.gs_world.specs.declared.refused.Refused.TheVariants.{Stale}
 
 -- the event is allowed in this world, or it is a quantum whose refusal is a breach
 abbrev pub IsCalm : Net → World → Event → Type 0
-IsCalm net w (Quantum incs) = (why net w (Quantum incs) ≡ None) ⊎ ((from : ℕ) × (to : ℕ) × (why net w (Quantum incs) ≡ Some (Stale from to)))
+IsCalm net w (Quantum incs) =
+    (why net w (Quantum incs) ≡ None)
+    ⊎ ((from : ℕ) × (to : ℕ) × (why net w (Quantum incs) ≡ Some (Stale from to)))
 IsCalm net w (Tick v) = why net w (Tick v) ≡ None
 IsCalm net w (Deliver from to seq) = why net w (Deliver from to seq) ≡ None
 

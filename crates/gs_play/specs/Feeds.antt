@@ -15,10 +15,6 @@ use Rattle.gs_play.specs.Events.{events_from}
 use Rattle.gs_play.specs.Due.{due_by, due_after, key_cmp}
 use Rattle.gs_play.specs.Transits.{Has, AreInOrder, Comes, InTransit, IsCovering}
 
--- what the hardware clocks of the first n nodes add in quantum t
-unfoldable pub incs_below : Course → ℕ → ℕ → List ℕ
-incs_below c t n = map (λ v. c.inc v t) (range_with_len 0 n)
-
 -- what is in transit to node v
 abbrev pub waiting : List (List Key) → ℕ → List Key
 waiting lists v = slice_index_or lists v []
@@ -63,10 +59,6 @@ NoneIsDue t to lists = (v : ℕ) → to ≤ v → v < length lists → due_by t 
 -- each node's turn after quantum t
 abbrev pub AreTurns : Net → Course → ℕ → List Turn → Type 0
 AreTurns net c t turns = (v : ℕ) → v < net.nodes → turn_in turns v ≡ turn net c v t
-
--- all that was sent by quantum t and is due later is kept, and beside it only beacons of the next quantum
-abbrev pub AreCovering : Net → Course → ℕ → List (List Key) → Type 0
-AreCovering net c t lists = (v : ℕ) → v < net.nodes → IsCovering net c v t (waiting lists v)
 
 -- all that was sent from `from` to `to` in quantum t is kept
 abbrev pub HasSent : Net → Course → ℕ → ℕ → ℕ → List (List Key) → Type 0

@@ -13,8 +13,10 @@ use Rattle.gs_play.specs.Breach.{Breach}
 use Rattle.gs_play.specs.Calm.{Calm}
 use Rattle.gs_play.specs.Course.{course_of}
 use Rattle.gs_play.specs.Events.{events_of}
+use Rattle.gs_play.specs.Losses.{LosesFew}
 use Rattle.gs_play.specs.Played.{start_of}
 use Rattle.gs_play.specs.Scripts.{breach_of_script}
+use Rattle.gs_play.specs.Stale.{breach_upto}
 
 -- the event at place k is the first that is refused, where i went before, and this breach is why
 pub record IsFirstRefusal (net : Net) (i : ℕ) (w : World) (es : List Event) (b : Breach) (k : ℕ) : Type 0 where
@@ -37,3 +39,13 @@ UnbreachedAreAllowed = (p : Plan) (s : Said) → s.text ≡ text_of p → IsScri
 abbrev pub BreachesAreFirst : Type 0
 BreachesAreFirst = (p : Plan) (s : Said) (b : Breach) → s.text ≡ text_of p → IsScript s → breach_of_script p s ≡ Some b
     → (k : ℕ) × IsFirstRefusal (net_of p) 0 (start_of (net_of p)) (events_of (net_of p) (course_of s)) b k
+
+-- and it follows from the plan and the script alone, whatever the clocks: it is the calendar's
+abbrev pub BreachesAreTheCalendars : Type 0
+BreachesAreTheCalendars = (p : Plan) (s : Said) → s.text ≡ text_of p → IsScript s
+    → breach_of_script p s ≡ breach_upto (net_of p) (course_of s) s.quanta
+
+-- The beacon-bound law: a script that loses no more beacons in a row than its plan allows for has no breach.
+abbrev pub FewLossesNeverBreach : Type 0
+FewLossesNeverBreach = (p : Plan) (s : Said) → s.text ≡ text_of p → IsScript s → LosesFew p s
+    → breach_of_script p s ≡ None

@@ -1,5 +1,6 @@
 pub mod Course
 pub mod Calendar
+pub mod Losses
 pub mod Events
 pub mod Due
 pub mod Transits
@@ -8,9 +9,11 @@ pub mod Seen
 pub mod Breach
 pub mod Played
 pub mod Calm
+pub mod Stale
 pub mod Scripts
 pub mod Kept
 pub mod UnderWay
 pub mod Running
 pub mod Stops
+pub mod StopTexts
 pub mod Laws

@@ -36,12 +36,6 @@ pub record InTransit (net : Net) (c : Course) (v n a : ℕ) (k : Key) : Type 0 w
   pub by : when ≤ n
   pub is : Comes net c k.from v k.due when k.seq
 
--- in order, all that is in transit and nothing else
-pub record IsTransit (net : Net) (c : Course) (v n a : ℕ) (ks : List Key) : Type 0 where
-  pub order : AreInOrder ks
-  pub only : (k : Key) → Has k ks → InTransit net c v n a k
-  pub all : (k : Key) → InTransit net c v n a k → Has k ks
-
 -- in order, all that was sent by quantum t and is due later, and beside it only beacons of the next quantum
 pub record IsCovering (net : Net) (c : Course) (v t : ℕ) (ks : List Key) : Type 0 where
   pub order : AreInOrder ks

@@ -3,7 +3,7 @@
 #![tactic(auto)]
 
 pub use feed::Feed;
-pub use laws::{scripts_are_calm, scripts_keep_bounds};
+pub use laws::{few_losses_never_breach, scripts_are_calm, scripts_keep_bounds};
 pub use playing::play;
 pub use stop::PlayStop;
 pub use transit::Key;

@@ -1,6 +1,7 @@
 ghost use Rattle.std.specs.Prelude.{◌≡◌, ◌+◌, length, IfErr, IfOk, None};
 ghost use Rattle.gs_plan.specs.Plans.{graph_of, text_of};
 ghost use Rattle.gs_play.specs.Kept.{IsWithinBounds, PlayKeepsBounds};
+ghost use Rattle.gs_play.specs.Losses.{LosesFew};
 ghost use Rattle.gs_play.specs.Scripts.{breach_of_script, report_of_script};
 ghost use Rattle.gs_play.specs.Stops.{StopsAt};
 
@@ -16,12 +17,15 @@ use std::alloc::Global;
 /// Plays a script on its plan from equal clocks, and reports the skews of the clocks at the start and at
 /// the end of each quantum, in clock units. It stops at the first quantum that is not allowed, which is
 /// one where a node has heard nothing new of a neighbour for too long; a script can break no other rule.
-/// Every play that ends with a report keeps the bounds of the plan: see [`scripts_keep_bounds`].
+/// Every play that ends with a report keeps the bounds of the plan: see [`scripts_keep_bounds`]. A script
+/// that loses no more beacons in a row than the plan's `losses` is played to the end:
+/// see [`few_losses_never_breach`].
 ///
 /// One worker plays all nodes as one piece: it enters the gate before the start, and leaves it after the
 /// last event.
 ///
 /// [`scripts_keep_bounds`]: crate::scripts_keep_bounds
+/// [`few_losses_never_breach`]: crate::few_losses_never_breach
 pub fn play<G: Gate>(
     alloc: Global,
     plan: &Plan,
@@ -37,6 +41,7 @@ pub fn play<G: Gate>(
     ensures kept { IfOk result (λ report. PlayKeepsBounds plan.now script.now) }
     ensures within { IfOk result (IsWithinBounds (text_of plan.now) (graph_of plan.now)) }
     ensures stop { IfErr result (StopsAt (breach_of_script plan.now script.now)) }
+    ensures few_losses { LosesFew plan.now script.now → IfErr result (λ stop. stop ≡ PlayStop.OutOfMemory) }
 {
     let _one = workers;
     gate.enter(0);
@@ -54,6 +59,7 @@ fn play_piece(alloc: Global, plan: &Plan, script: &Script) -> Result<Report, Pla
     ensures kept { IfOk result (λ report. PlayKeepsBounds plan.now script.now) }
     ensures within { IfOk result (IsWithinBounds (text_of plan.now) (graph_of plan.now)) }
     ensures stop { IfErr result (StopsAt (breach_of_script plan.now script.now)) }
+    ensures few_losses { LosesFew plan.now script.now → IfErr result (λ stop. stop ≡ PlayStop.OutOfMemory) }
 {
     // From here on it is known that the script keeps the bounds of its plan.
     let _within_bounds = script.quanta();

@@ -1,4 +1,4 @@
-use crate::{PlayStop, play, scripts_are_calm, scripts_keep_bounds};
+use crate::{PlayStop, few_losses_never_breach, play, scripts_are_calm, scripts_keep_bounds};
 use gs_io::PlainGate;
 use gs_level::{Peak, Report};
 use gs_plan::{Plan, check};
@@ -89,18 +89,57 @@ fn a_drift_is_reported_and_made_up_for(rt: HostRuntime) -> Result<(), Fail> {
     Ok(())
 }
 
-#[test]
-fn lost_beacons_are_a_breach(rt: HostRuntime) -> Result<(), Fail> {
-    let alloc = rt.alloc();
-    let plan = planned(alloc, &base(alloc, 2))?;
-    let stop = played(&rt, &plan, "quanta,1000\nloss,0,1,1,1000,1")?;
-    assert_eq!(rt;
-        stop.err(),
+/// Plays of two nodes on a plan whose age is just enough for 3 beacons in a row to be lost: the records, and
+/// the breach. Beacons are sent in each 100th quantum, and the one after 3 that are lost comes as late as it may.
+const LOSSES: [(&str, Option<PlayStop>); 4] = [
+    ("quanta,1000\nloss,0,1,1,300,1\ndelay,0,1,400,400,12", None),
+    (
+        "quanta,1000\nloss,0,1,1,400,1",
         Some(PlayStop::Stale {
             quantum: 413,
             from: 0,
-            to: 1
-        })
+            to: 1,
+        }),
+    ),
+    (
+        "quanta,1000\nloss,1,0,401,700,1\ndelay,1,0,800,800,12",
+        None,
+    ),
+    (
+        "quanta,1000\nloss,1,0,401,800,1",
+        Some(PlayStop::Stale {
+            quantum: 813,
+            from: 1,
+            to: 0,
+        }),
+    ),
+];
+
+#[test]
+fn losses_of_the_plan_are_no_breach_and_one_more_is(rt: HostRuntime) -> Result<(), Fail> {
+    let alloc = rt.alloc();
+    let plan = planned(alloc, &base(alloc, 2))?;
+    for (records, breach) in LOSSES {
+        assert_eq!(rt; played(&rt, &plan, records)?.err(), breach);
+    }
+    Ok(())
+}
+
+#[test]
+fn a_stop_says_why(rt: HostRuntime) -> Result<(), Fail> {
+    let alloc = rt.alloc();
+    let breach = PlayStop::Stale {
+        quantum: 413,
+        from: 0,
+        to: 1,
+    };
+    assert_eq!(rt;
+        breach.to_string(alloc)?.as_str(),
+        "breach at quantum 413: stale 0 1"
+    );
+    assert_eq!(rt;
+        PlayStop::OutOfMemory.to_string(alloc)?.as_str(),
+        "out of memory"
     );
     Ok(())
 }
@@ -129,6 +168,7 @@ fn other_shapes_are_played(rt: HostRuntime) -> Result<(), Fail> {
 
 #[test]
 fn laws_cost_nothing(_rt: HostRuntime) -> Result<(), Fail> {
+    few_losses_never_breach();
     scripts_are_calm();
     scripts_keep_bounds();
     Ok(())

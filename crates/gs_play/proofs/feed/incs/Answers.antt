@@ -2,8 +2,7 @@ use Rattle.std.proofs.Common.{◌≡◌, ap, ◌∙◌, ℕ, arith}
 use Rattle.gs_topo.specs.Graph.{Graph}
 use Rattle.gs_world.specs.Nets.{net_of}
 use Rattle.gs_play.specs.Course.{course_of}
-use Rattle.gs_play.specs.Feeds.{incs_below}
-use Rattle.gs_play.proofs.Beginning.{incs_all}
+use Rattle.gs_play.proofs.Beginning.{incs_all, incs_below}
 use Rattle.gs_play.proofs.feed.incs.Goals as goal
 
 pub returns : goal.returns

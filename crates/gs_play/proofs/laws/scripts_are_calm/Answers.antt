@@ -4,6 +4,7 @@ use Rattle.gs_play.specs.Course.{course_of}
 use Rattle.gs_play.proofs.Breaches.{script_breach_is_first_refusal, unbreached_script_is_allowed}
 use Rattle.gs_play.proofs.Calm.{scripts_are_calm}
 use Rattle.gs_play.proofs.Fitting.{fits}
+use Rattle.gs_play.proofs.Staleness.{script_breach_is}
 use Rattle.gs_play.proofs.laws.scripts_are_calm.Goals as goal
 
 pub returns-clause-calm : goal.returns-clause-calm
@@ -16,3 +17,6 @@ returns-clause-allowed c = λ p s read is none.
 pub returns-clause-first : goal.returns-clause-first
 returns-clause-first c = λ p s b read is some.
     script_breach_is_first_refusal (net_of p) (course_of s) b (plan_has_numbers p) (fits p s read is) some
+
+pub returns-clause-calendar : goal.returns-clause-calendar
+returns-clause-calendar c = λ p s read is. script_breach_is (net_of p) (course_of s) (plan_has_numbers p) (fits p s read is)

@@ -13,6 +13,7 @@ use Rattle.gs_play.specs.Played.{start_of}
 use Rattle.gs_play.specs.Running.{IsRunning}
 use Rattle.gs_play.specs.Scripts.{report_of_script}
 use Rattle.gs_play.proofs.Calm.{scripts_are_calm}
+use Rattle.gs_play.proofs.FewLosses.{stops_for_memory}
 use Rattle.gs_play.proofs.Fitting.{fits}
 use Rattle.gs_play.proofs.Keeping.{scripts_keep}
 use Rattle.gs_play.proofs.Onward.{same_left}
@@ -93,3 +94,23 @@ returns-clause-within c =
     let report : c.in_ok-report.field-0 ≡ report_of_script p s = c.in_ok-report.ensures.ok p all ended in
     let within = (scripts_keep p s c.requires.script c.quanta-within_bounds.ensures.within ended.under_way.breach).1 in
     subst (λ (r : Report). IsWithinBounds (text_of p) (graph_of p) r) (sym report) within
+
+pub returns-in_err-event-clause-few_losses : goal.returns-in_err-event-clause-few_losses
+returns-in_err-event-clause-few_losses c = λ few.
+    let answer = err_from_is_err_and c.from_residual-in_err-event.result c.from_residual-in_err-event.ensures.1 in
+    rw answer.1 answer.2
+
+pub returns-in_err-take-clause-few_losses : goal.returns-in_err-take-clause-few_losses
+returns-in_err-take-clause-few_losses c = λ few.
+    let p = c.args.plan.now in
+    let s = c.args.script.now in
+    let all : List Event = events_of (net_of p) (course_of s) in
+    let first : c.loop-running.feed ≡ c.in-Some.event ∷ c.next.new.self = search rules in
+    let stop = c.in_err-take.ensures.err p all c.next.new.self (same_left p all _ _ _ first c.loop-running.invariant) in
+    let answer = err_from_is_err_and c.from_residual-in_err-take.result c.from_residual-in_err-take.ensures.1 in
+    rw (answer.1, answer.2) (stops_for_memory p s _ c.requires.script c.quanta-within_bounds.ensures.within few stop)
+
+pub returns-in_err-report-clause-few_losses : goal.returns-in_err-report-clause-few_losses
+returns-in_err-report-clause-few_losses c = λ few.
+    let answer = err_from_is_err_and c.from_residual-in_err-report.result c.from_residual-in_err-report.ensures.1 in
+    rw answer.1 answer.2
