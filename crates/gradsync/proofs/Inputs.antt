@@ -1,5 +1,5 @@
 -- What the two words of a play give, read one after the other.
-use Rattle.std.proofs.Common.{◌≡◌, ℕ, ◌≤◌, inl, inr, true, List, None, Result, Ok, Err}
+use Rattle.std.proofs.Common.{◌≡◌, ◌≢◌, ℕ, ◌≤◌, inl, inr, true, List, None, Result, Ok, Err}
 use Rattle.std.proofs.Common.{arith, refl, sym, subst}
 use Rattle.std.specs.Result.{IsErrAnd}
 use Rattle.gs_io.specs.Causes.{Rose}
@@ -8,11 +8,14 @@ use Rattle.gs_plan.specs.declared.plan.Plan.{Plan}
 use Rattle.gs_level.specs.ReportText.{report_text}
 use Rattle.gs_level.specs.declared.report.Report.{Report}
 use Rattle.gs_script.specs.Script.{Said}
-use Rattle.gs_play.specs.Kept.{IsWithinBounds, PlayKeepsBounds}
 use Rattle.gs_play.specs.Scripts.{breach_of_script, report_of_script}
-use Rattle.gradsync.specs.Answers.{Answer}
+use Rattle.gs_play.specs.Stops.{StopsAt}
+use Rattle.gs_play.specs.StopTexts.{stop_text}
+use Rattle.gs_play.specs.declared.stop.PlayStop.{PlayStop}
+use Rattle.gs_play.specs.declared.stop.PlayStop.TheVariants as play_stop
+use Rattle.gradsync.specs.Answers.{Answer, line}
 use Rattle.gradsync.specs.Plans.{plan_in}
-use Rattle.gradsync.specs.Plays.{IsPlayBy, IsPlayIn, IsPlayed, script_in}
+use Rattle.gradsync.specs.Plays.{IsAnswerToPlan, IsPlayAnswer, played, script_in}
 use Rattle.gradsync.specs.Reading.{Bytes, TooLong, Failed}
 use Rattle.gradsync.specs.Reply.{answer_in}
 use Rattle.gradsync.specs.Sources.{Shelves, Source, Given, BuiltIn, File, Gave, IsRead}
@@ -69,7 +72,7 @@ gave_second first second kind word (File name Failed) in_turn (is_file, is_name,
 pub no_script : (first second : Shelves) (plan script : List ℕ) (source : Source) (stop : Stop)
     → IsLater first second → IsRead first kind.Plan plan (Ok source)
     → StopsWith (λ answer. IsRead second kind.Script script (Err answer)) stop
-    → StopsWith (IsPlayBy (both first second) plan script true) stop
+    → StopsWith (IsPlayAnswer (both first second) plan script true) stop
 no_script first second plan script source OutOfMemory in_turn is_read stops = stops
 no_script first second plan script source (Refused reply) in_turn (given, gave, is) (told, gave_script, is_script) = (
   given,
@@ -80,16 +83,17 @@ no_script first second plan script source (Refused reply) in_turn (given, gave, 
 -- a play of inputs that were read
 played_both : (first second : Shelves) (plan script : List ℕ) (source told : Source) (answer : Answer)
     → IsLater first second → IsRead first kind.Plan plan (Ok source) → IsRead second kind.Script script (Ok told)
-    → IsPlayIn (plan_in source) told answer → IsPlayBy (both first second) plan script true answer
-played_both first second plan script source told answer in_turn (given, gave, is) (given_script, gave_script, is_script) played = (
+    → IsAnswerToPlan (plan_in source) told answer → IsPlayAnswer (both first second) plan script true answer
+played_both first second plan script source told answer in_turn (given, gave, is) (given_script, gave_script, is_script) answers = (
   given,
   gave_first first second kind.Plan plan given in_turn gave,
-  rw is (given_script, gave_second first second kind.Script script given_script in_turn gave_script, rw is_script played),
+  rw is (given_script, gave_second first second kind.Script script given_script in_turn gave_script, rw is_script answers),
 )
 
 pub both_read : (first second : Shelves) (plan script : List ℕ) (source told : Source) (done : Result Reply Stop)
     → IsLater first second → IsRead first kind.Plan plan (Ok source) → IsRead second kind.Script script (Ok told)
-    → EndsWith (IsPlayIn (plan_in source) told) done → EndsWith (IsPlayBy (both first second) plan script true) done
+    → EndsWith (IsAnswerToPlan (plan_in source) told) done
+    → EndsWith (IsPlayAnswer (both first second) plan script true) done
 both_read first second plan script source told (Ok reply) in_turn is_read is_told answers =
     played_both first second plan script source told (answer_in reply) in_turn is_read is_told answers
 both_read first second plan script source told (Err (Refused reply)) in_turn is_read is_told answers =
@@ -105,13 +109,21 @@ stopped Is (Err end) stop found stops = subst (StopsWith Is) (sym found) stops
 -- a play of an accepted plan and a script for it
 pub both_accepted : (source told : Source) (plan : Plan) (said : Said) (answer : Answer)
     → plan_in source ≡ Ok (text_of plan) → script_in (text_of plan) told ≡ Ok said
-    → IsPlayed plan said (breach_of_script plan said) answer → IsPlayIn (plan_in source) told answer
-both_accepted source told plan said answer is_plan is_script played = rw (is_plan, is_script) (plan, refl, played)
+    → answer ≡ played plan said (breach_of_script plan said) → IsAnswerToPlan (plan_in source) told answer
+both_accepted source told plan said answer is_plan is_script answers = rw (is_plan, is_script) (plan, refl, answers)
 
--- a report of a script without a breach, whose bounds are kept
-pub reported_within : (plan : Plan) (said : Said) (report : Report) (answer : Answer)
+-- the report of a script without a breach
+pub reported_by : (plan : Plan) (said : Said) (report : Report) (answer : Answer)
     → breach_of_script plan said ≡ None → report ≡ report_of_script plan said
-    → PlayKeepsBounds plan said → IsWithinBounds (text_of plan) (graph_of plan) report
     → answer ≡ record { status = status.Done; text = report_text (text_of plan) (graph_of plan) report }
-    → IsPlayed plan said (breach_of_script plan said) answer
-reported_within plan said report answer none is kept within reports = rw none (rw is at reports, kept, rw is at within)
+    → answer ≡ played plan said (breach_of_script plan said)
+reported_by plan said report answer none is reports = rw none (rw is at reports)
+
+-- the line of a stop that names a breach
+pub breached_by : (plan : Plan) (said : Said) (stop : PlayStop) (answer : Answer)
+    → StopsAt (breach_of_script plan said) stop → stop ≢ play_stop.OutOfMemory
+    → answer ≡ line status.Breach (stop_text stop) → answer ≡ played plan said (breach_of_script plan said)
+breached_by plan said (play_stop.Stale quantum from to) answer breach other says = rw breach says
+breached_by plan said play_stop.OutOfMemory answer breach other says = absurd (other refl)
+
+pub ruleset playing = (reported_by, breached_by)

@@ -1,3 +1,4 @@
+-- What answers the words of a command line, and what writing it does to a sink.
 use Rattle.std.specs.Prelude.{◌≡◌, ℕ, ◌⊎◌, List, [], ◌∷◌, ◌++◌, Option, codes}
 use Rattle.gs_io.specs.Causes.{Rose}
 use Rattle.gs_io.specs.Held.{Appends, AppendsFront}
@@ -29,6 +30,6 @@ IsWhole answer old new status = (status ≡ answer.status) × Appends old new an
 abbrev pub IsCut : Answer → Option (List ℕ) → Option (List ℕ) → ℕ → ℕ → Status → Type 0
 IsCut answer old new before after status = (status ≡ WriteFault) × AppendsFront old new answer.text × Rose before after
 
--- What writing an answer does to a sink, of which `old` and `new` are the bytes and `before` and `after` the counts of faults.
+-- What writing an answer does to a sink: `old` and `new` are its bytes, `before` and `after` its counts of faults.
 abbrev pub Gives : Answer → Option (List ℕ) → Option (List ℕ) → ℕ → ℕ → Status → Type 0
 Gives answer old new before after status = IsWhole answer old new status ⊎ IsCut answer old new before after status

@@ -1,4 +1,6 @@
-use Rattle.std.specs.Prelude.{ℕ, ◌-◌, ◌^◌, ◌&&◌, List, [], ◌∷◌, Option, Some, None, nat_le, if◌then◌else◌, codes, option_map, option_and_then}
+-- The commands, and the words that spell them.
+use Rattle.std.specs.Prelude.{ℕ, ◌-◌, ◌^◌, ◌&&◌, List, [], ◌∷◌, Option, Some, None, nat_le, if◌then◌else◌, codes}
+use Rattle.std.specs.Prelude.{option_map, option_and_then}
 use Rattle.std.specs.Str.{bytes_eq}
 use Rattle.gs_text.specs.Numbers.{number_of}
 use Rattle.gradsync.specs.declared.command.Part.{Part}
@@ -61,7 +63,8 @@ replay_args _ = None
 -- NUMBER SIZE PART
 abbrev pub gen_args : List (List ℕ) → Option Command
 gen_args (number ∷ size ∷ part ∷ []) =
-    option_and_then (λ n. option_and_then (λ s. option_map (Gen n s) (part_of part)) (number_within 3 512 size)) (number_within 0 (2 ^ 64 - 1) number)
+    option_and_then (λ n. option_and_then (λ s. option_map (Gen n s) (part_of part)) (number_within 3 512 size))
+    (number_within 0 (2 ^ 64 - 1) number)
 gen_args _ = None
 
 -- PLAN
@@ -77,7 +80,8 @@ settle_args _ = None
 -- PLAN SCRIPT REACH SLOT
 abbrev pub slots_args : List (List ℕ) → Option Command
 slots_args (plan ∷ script ∷ reach ∷ slot ∷ []) =
-    option_and_then (λ n. option_map (Slots plan script n) (number_within 0 (2 ^ 64 - 1) slot)) (number_within 0 (2 ^ 32 - 1) reach)
+    option_and_then (λ n. option_map (Slots plan script n) (number_within 0 (2 ^ 64 - 1) slot))
+    (number_within 0 (2 ^ 32 - 1) reach)
 slots_args _ = None
 
 -- PLAN SCRIPT EVERY

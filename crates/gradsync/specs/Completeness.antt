@@ -19,13 +19,14 @@ use Rattle.gradsync.specs.declared.status.Status.TheVariants.{Done, OutOfMemory}
 
 -- the word names this source: a built-in one, or a file that is there and not too long
 abbrev pub Names : Shelves → Kind → List ℕ → Source → Type 0
-Names files kind word (Count count) = (is_built_in (prefix_of kind) word ≡ true) × (count ≡ drop (length (prefix_of kind)) word)
+Names files kind word (Count count) =
+    (is_built_in (prefix_of kind) word ≡ true) × (count ≡ drop (length (prefix_of kind)) word)
 Names files kind word (Text bytes) =
     (told : List ℕ → Option (List ℕ)) × (is_built_in (prefix_of kind) word ≡ false)
     × (files.content ≡ Some told) × (told word ≡ Some bytes) × (length bytes ≤ 1048576)
 
--- Where the words are `plan` or `migrate` with an accepted plan, and no count of the sink or of the plan's file rose, all is
--- written, or memory was short.
+-- Where the words are `plan` or `migrate` with an accepted plan, and no count of the sink or of the plan's file rose,
+-- all is written, or memory was short.
 abbrev pub CompletesPlans : Shelves → List (List ℕ) → ℕ → ℕ → Status → Type 0
 CompletesPlans files words before after status =
     (word : List ℕ) (source : Source) (text : PlanText)
@@ -42,5 +43,6 @@ CompletesPlays files words before after status =
     → Names files kind.Plan plan source → text_from source ≡ Ok text → plan_fault text ≡ None
     → Names files kind.Script script told → script_in text told ≡ Ok said
     → ((p : Plan) → text_of p ≡ text → breach_of_script p said ≡ None)
-    → ¬ (Rose before after) → ¬ (Rose (files.before plan) (files.after plan)) → ¬ (Rose (files.before script) (files.after script))
+    → ¬ (Rose before after) → ¬ (Rose (files.before plan) (files.after plan))
+    → ¬ (Rose (files.before script) (files.after script))
     → (status ≡ Done) ⊎ (status ≡ OutOfMemory)

@@ -15,8 +15,8 @@ use Rattle.gradsync.specs.declared.source.Kind.TheVariants as kind
 use Rattle.gradsync.specs.declared.status.Status.{Status}
 use Rattle.gradsync.specs.declared.status.Status.TheVariants.{Done}
 
--- What the words PLAN and SCRIPT name was read, and is an accepted plan and a script for it. Playing the script keeps all
--- bounds of the plan, and its report was written, in which no number is above its bound.
+-- What the words PLAN and SCRIPT name was read, and is an accepted plan and a script for it. Playing the script keeps
+-- all bounds of the plan, and its report was written, in which no number is above its bound.
 pub record IsPlayWithin (files : Shelves) (plan_word script_word : List ℕ) (old new : Option (List ℕ)) : Type 0 where
   pub plan_source : Source
   pub script_source : Source

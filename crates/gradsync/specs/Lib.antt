@@ -7,7 +7,6 @@ pub mod PlanTexts
 pub mod Plans
 pub mod Plays
 pub mod Reading
-pub mod Refusals
 pub mod Reply
 pub mod Runs
 pub mod SourceSeen

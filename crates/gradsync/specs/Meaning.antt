@@ -1,6 +1,8 @@
+-- The command that the code read, as data. These facts are for private functions and proofs.
 use Rattle.gradsync.specs.Commands as spelled
 use Rattle.gradsync.specs.declared.command.Command.{Command}
-use Rattle.gradsync.specs.declared.command.Command.TheVariants.{Plan, Play, Trace, Audit, Replay, Gen, Migrate, Settle, Slots, Order}
+use Rattle.gradsync.specs.declared.command.Command.TheVariants.{Plan, Play, Trace, Audit, Replay, Gen, Migrate}
+use Rattle.gradsync.specs.declared.command.Command.TheVariants.{Settle, Slots, Order}
 
 -- a command that was read, its words as bytes
 abbrev pub meaning : Command → spelled.Command

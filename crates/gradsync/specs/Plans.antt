@@ -2,15 +2,16 @@
 use Rattle.std.specs.Prelude.{◌≡◌, ℕ, ◌-◌, ◌^◌, List, ◌++◌, Option, Some, None, Result, Ok, Err, codes}
 use Rattle.gs_planfile.specs.Meaning.{plan_of}
 use Rattle.gs_planfile.specs.Texts.{base_text, newest}
+use Rattle.gs_planfile.specs.Words.{why_of as file_why}
 use Rattle.gs_planfile.specs.declared.key.PlanFileFault.{PlanFileFault}
 use Rattle.gs_planfile.specs.declared.text.PlanText.{PlanText}
 use Rattle.gs_plan.specs.Faults.{plan_fault}
 use Rattle.gs_plan.specs.Shapes.{graph_of_text}
+use Rattle.gs_plan.specs.Words.{why_of as plan_why}
 use Rattle.gs_plan.specs.declared.fault.PlanFault.{PlanFault}
 use Rattle.gradsync.specs.Answers.{Answer, line}
 use Rattle.gradsync.specs.Commands.{number_within}
 use Rattle.gradsync.specs.PlanTexts.{plan_text}
-use Rattle.gradsync.specs.Refusals.{file_why, plan_why}
 use Rattle.gradsync.specs.Sources.{Shelves, Source, Count, Text, Given, Gave, source_of}
 use Rattle.gradsync.specs.declared.source.Kind.TheVariants as kind
 use Rattle.gradsync.specs.declared.status.Status.TheVariants as status

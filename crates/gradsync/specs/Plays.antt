@@ -1,6 +1,6 @@
--- The script that a SCRIPT word names, and what playing it answers.
+-- The script that a SCRIPT word names, and the answer to `play`.
 use Rattle.std.specs.Prelude.{◌≡◌, ℕ, ◌-◌, ◌^◌, Bool, true, false, List, ◌++◌, Option, Some, None}
-use Rattle.std.specs.Prelude.{Result, Ok, Err, codes, decimal}
+use Rattle.std.specs.Prelude.{Result, Ok, Err, codes}
 use Rattle.gs_planfile.specs.declared.text.PlanText.{PlanText}
 use Rattle.gs_plan.specs.Plans.{text_of, graph_of}
 use Rattle.gs_plan.specs.declared.plan.Plan.{Plan}
@@ -10,8 +10,8 @@ use Rattle.gs_script.specs.Reading.{script_of, steady_of}
 use Rattle.gs_script.specs.Script.{Said}
 use Rattle.gs_script.specs.declared.fault.ScriptFault.{ScriptFault}
 use Rattle.gs_play.specs.Breach.{Breach}
-use Rattle.gs_play.specs.Kept.{IsWithinBounds, PlayKeepsBounds}
 use Rattle.gs_play.specs.Scripts.{breach_of_script, report_of_script}
+use Rattle.gs_play.specs.StopTexts.{breach_text}
 use Rattle.gradsync.specs.Answers.{Answer, line, unbuilt}
 use Rattle.gradsync.specs.Commands.{number_within}
 use Rattle.gradsync.specs.Plans.{plan_in}
@@ -39,46 +39,42 @@ script_in text (Text bytes) = said_from (script_of text bytes)
 
 -- the line of a breach
 abbrev pub breached : Breach → Answer
-breached b =
-    line status.Breach
-    (codes "breach at quantum " ++ decimal b.quantum ++ codes ": stale " ++ decimal b.from ++ codes " " ++ decimal b.to)
+breached breach = line status.Breach (breach_text breach)
 
 -- the report of a script
 abbrev pub reported : Plan → Said → Answer
 reported plan said =
     record { status = status.Done; text = report_text (text_of plan) (graph_of plan) (report_of_script plan said) }
 
--- The answer to playing a script: the line of its first breach; where it has none its report, and then all bounds are kept.
-abbrev pub IsPlayed : Plan → Said → Option Breach → Answer → Type 0
-IsPlayed plan said (Some breach) answer = answer ≡ breached breach
-IsPlayed plan said None answer =
-    (answer ≡ reported plan said) × PlayKeepsBounds plan said
-    × IsWithinBounds (text_of plan) (graph_of plan) (report_of_script plan said)
+-- the answer to playing a script: the line of its first breach or, where it has none, its report
+abbrev pub played : Plan → Said → Option Breach → Answer
+played plan said (Some breach) = breached breach
+played plan said None = reported plan said
 
--- the same where the script may be refused
-abbrev pub IsPlayOf : PlanText → Result Said Answer → Answer → Type 0
-IsPlayOf text (Err refusal) answer = answer ≡ refusal
-IsPlayOf text (Ok said) answer =
-    (plan : Plan) × (text_of plan ≡ text) × IsPlayed plan said (breach_of_script plan said) answer
+-- once the script was looked into: what refuses it, or the answer to playing it
+abbrev pub IsAnswerToScript : PlanText → Result Said Answer → Answer → Type 0
+IsAnswerToScript text (Err refusal) answer = answer ≡ refusal
+IsAnswerToScript text (Ok said) answer =
+    (plan : Plan) × (text_of plan ≡ text) × (answer ≡ played plan said (breach_of_script plan said))
 
--- the same where the plan may be refused, and then the script is not looked into
-abbrev pub IsPlayIn : Result PlanText Answer → Source → Answer → Type 0
-IsPlayIn (Err refusal) script answer = answer ≡ refusal
-IsPlayIn (Ok text) script answer = IsPlayOf text (script_in text script) answer
+-- once the plan was looked into: what refuses it, or the script is looked into
+abbrev pub IsAnswerToPlan : Result PlanText Answer → Source → Answer → Type 0
+IsAnswerToPlan (Err refusal) script answer = answer ≡ refusal
+IsAnswerToPlan (Ok text) script answer = IsAnswerToScript text (script_in text script) answer
 
--- the same where the script's file may not have been read, and then the plan is not looked into
-abbrev pub IsPlayWith : Source → Result Source Answer → Answer → Type 0
-IsPlayWith plan (Err stop) answer = answer ≡ stop
-IsPlayWith plan (Ok script) answer = IsPlayIn (plan_in plan) script answer
+-- once the script's file was read: why it could not be, or the plan is looked into
+abbrev pub IsAnswerToSources : Source → Result Source Answer → Answer → Type 0
+IsAnswerToSources plan (Err stop) answer = answer ≡ stop
+IsAnswerToSources plan (Ok script) answer = IsAnswerToPlan (plan_in plan) script answer
 
--- the same where the plan's file may not have been read, and then the script's file is not read
-abbrev pub IsPlayAfter : Shelves → Result Source Answer → List ℕ → Answer → Type 0
-IsPlayAfter files (Err stop) word answer = answer ≡ stop
-IsPlayAfter files (Ok plan) word answer =
-    (given : Given) × Gave files kind.Script word given × IsPlayWith plan (source_of given) answer
+-- once the plan's file was read: why it could not be, or the script's file is read
+abbrev pub IsAnswerAfterPlan : Shelves → Result Source Answer → List ℕ → Answer → Type 0
+IsAnswerAfterPlan files (Err stop) word answer = answer ≡ stop
+IsAnswerAfterPlan files (Ok plan) word answer =
+    (given : Given) × Gave files kind.Script word given × IsAnswerToSources plan (source_of given) answer
 
--- The answer to a play of what two words name, by one worker or by more, which is not built.
-abbrev pub IsPlayBy : Shelves → List ℕ → List ℕ → Bool → Answer → Type 0
-IsPlayBy files plan script false answer = answer ≡ unbuilt
-IsPlayBy files plan script true answer =
-    (given : Given) × Gave files kind.Plan plan given × IsPlayAfter files (source_of given) script answer
+-- This answers `play` with these two words: by one worker the plan's file is read, and more are not built.
+abbrev pub IsPlayAnswer : Shelves → List ℕ → List ℕ → Bool → Answer → Type 0
+IsPlayAnswer files plan script false answer = answer ≡ unbuilt
+IsPlayAnswer files plan script true answer =
+    (given : Given) × Gave files kind.Plan plan given × IsAnswerAfterPlan files (source_of given) script answer

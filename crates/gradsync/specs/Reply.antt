@@ -1,3 +1,4 @@
+-- The answer that a reply of the code stands for. These facts are for private functions and proofs.
 use Rattle.gradsync.specs.Answers.{Answer}
 use Rattle.gradsync.specs.declared.status.Status.TheVariants.{Done}
 use Rattle.gradsync.specs.declared.reply.Reply.{Reply}

@@ -1,3 +1,4 @@
+-- What the code read, as data. These facts are for private functions and proofs.
 use Rattle.gradsync.specs.Reading as told
 use Rattle.gradsync.specs.Sources as told_source
 use Rattle.gradsync.specs.declared.reading.Reading.{Reading}

@@ -1,6 +1,10 @@
+-- The exit status of the process, for each way in which a run ends.
 use Rattle.std.specs.Prelude.{ℕ}
 use Rattle.gradsync.specs.declared.status.Status.{Status}
-use Rattle.gradsync.specs.declared.status.Status.TheVariants.{Done, Usage, ReadFault, TooLong, PlanRefused, InputRefused, Breach, WriteFault, OutOfMemory, ClockFault, LinkFault, NoThread, ClockEnd, JournalEnd, Torn, Unbuilt, StoreFault, StampEnd}
+use Rattle.gradsync.specs.declared.status.Status.TheVariants.{Done, Usage, ReadFault, TooLong, PlanRefused}
+use Rattle.gradsync.specs.declared.status.Status.TheVariants.{InputRefused, Breach, WriteFault, OutOfMemory, ClockFault}
+use Rattle.gradsync.specs.declared.status.Status.TheVariants.{LinkFault, NoThread, ClockEnd, JournalEnd, Torn, Unbuilt}
+use Rattle.gradsync.specs.declared.status.Status.TheVariants.{StoreFault, StampEnd}
 
 -- the exit status of the process
 abbrev pub code_of : Status → ℕ

@@ -1,3 +1,4 @@
+-- How a command stops or ends, by its answer. These facts are for private functions and proofs.
 use Rattle.std.specs.Prelude.{◌≡◌, Result, Ok, Err, ⊤}
 use Rattle.gradsync.specs.Answers.{Answer}
 use Rattle.gradsync.specs.Reply.{answer_in}

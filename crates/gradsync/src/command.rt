@@ -1,5 +1,7 @@
 ghost use Rattle.std.specs.Prelude.{◌≡◌, map, string_bytes, Some, None, IfSome, IfNone};
-ghost use Rattle.gradsync.specs.Commands.{command_of, number_within, part_of, plan_args, play_args, trace_args, audit_args, replay_args, gen_args, migrate_args, settle_args, slots_args, order_args};
+ghost use Rattle.gradsync.specs.Commands.{command_of, number_within, part_of, plan_args, play_args, trace_args};
+ghost use Rattle.gradsync.specs.Commands.{audit_args, replay_args, gen_args, migrate_args, settle_args, slots_args};
+ghost use Rattle.gradsync.specs.Commands.{order_args};
 ghost use Rattle.gradsync.specs.Meaning.{meaning};
 
 /// What `gen` writes of a generated network.

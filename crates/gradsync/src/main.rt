@@ -1,4 +1,4 @@
-//! gradsync: plans, plays and audits networks of clocks from the command line.
+//! gradsync: plans and plays networks of clocks from the command line.
 #![tactic(auto)]
 
 use crate::status::Status;
@@ -16,7 +16,6 @@ mod plans;
 mod play_tests;
 mod plays;
 mod reading;
-mod refusal;
 mod reply;
 mod source;
 mod status;

@@ -2,7 +2,9 @@
 
 ghost use Rattle.std.specs.Prelude.{◌≡◌, ◌+◌, ◌<◌, ◌≤◌, ◌++◌, List, ℕ, length, decimal, OnOk, IfOk};
 ghost use Rattle.gs_plan.specs.Plans.{text_of, graph_of};
-ghost use Rattle.gradsync.specs.PlanTexts.{edge_line, plan_text, with_best, with_edge, with_edges, with_level, with_levels, with_link, with_rate, with_size, with_spans, with_terms, with_times};
+ghost use Rattle.gradsync.specs.PlanTexts.{edge_line, plan_text, with_best, with_edge, with_edges, with_level};
+ghost use Rattle.gradsync.specs.PlanTexts.{with_levels, with_link, with_rate, with_size, with_spans, with_terms};
+ghost use Rattle.gradsync.specs.PlanTexts.{with_times};
 
 use gs_plan::{EdgeNumbers, Plan};
 use gs_planfile::Version;

@@ -9,7 +9,6 @@ ghost use Rattle.gs_plan.specs.Plans.{text_of};
 ghost use Rattle.gradsync.specs.Commands.{number_within};
 ghost use Rattle.gradsync.specs.Plans.{IsMigrateAnswer, IsPlanAnswer, accepted, base_from, parsed};
 ghost use Rattle.gradsync.specs.Plans.{plan_in, refused, text_from};
-ghost use Rattle.gradsync.specs.Refusals.{file_why, plan_why};
 ghost use Rattle.gradsync.specs.Reply.{answer_in};
 ghost use Rattle.gradsync.specs.SourceSeen.{source_in};
 ghost use Rattle.gradsync.specs.Stops.{EndsWith, StopsAt};
@@ -18,35 +17,19 @@ use crate::reply::Reply;
 use crate::source::{Kind, Source, read_source};
 use crate::status::Status;
 use crate::stop::Stop;
-use crate::{command, plan_text, refusal};
+use crate::{command, plan_text};
 use gs_io::Files;
 use gs_plan::{Plan, PlanFault};
 use gs_planfile::{PlanFileFault, PlanText};
-use gs_text::Lines;
 use std::alloc::{AllocError, Global};
 
 const NUMBER: &str = "plan refused: number\n";
 
-/// The line that a plan file is refused with.
-fn file_refusal(alloc: Global, fault: &PlanFileFault) -> Result<Reply, AllocError>
-    ensures { IfOk result (λ reply. answer_in reply ≡ refused (file_why fault.now)) }
-{
-    let mut text = Lines::new(alloc);
-    text.word("plan refused: ")?;
-    refusal::write_file_why(&mut text, fault)?;
-    text.end()?;
-    Ok(Reply::Text(Status::PlanRefused, text))
-}
-
 /// The line that a plan is refused with.
-fn plan_refusal(alloc: Global, fault: &PlanFault) -> Result<Reply, AllocError>
-    ensures { IfOk result (λ reply. answer_in reply ≡ refused (plan_why fault.now)) }
+fn plan_refusal(alloc: Global, why: &str) -> Result<Reply, AllocError>
+    ensures { IfOk result (λ reply. answer_in reply ≡ refused why.now) }
 {
-    let mut text = Lines::new(alloc);
-    text.word("plan refused: ")?;
-    refusal::write_plan_why(&mut text, fault)?;
-    text.end()?;
-    Ok(Reply::Text(Status::PlanRefused, text))
+    Reply::line_of(alloc, Status::PlanRefused, "plan refused: ", why)
 }
 
 /// The text of a built-in plan.
@@ -70,7 +53,10 @@ fn parsed(alloc: Global, bytes: &[u8]) -> Result<PlanText, Stop>
     match gs_planfile::read_plan(alloc, bytes) {
         Ok(text) => Ok(text),
         Err(PlanFileFault::OutOfMemory) => Err(Stop::OutOfMemory),
-        Err(fault) => Err(Stop::Refused(file_refusal(alloc, &fault)?)),
+        Err(fault) => {
+            let why = fault.to_string(alloc)?;
+            Err(Stop::Refused(plan_refusal(alloc, why.as_str())?))
+        }
     }
 }
 
@@ -95,7 +81,10 @@ fn checked(alloc: Global, text: &PlanText) -> Result<Plan, Stop>
     match gs_plan::check(alloc, text) {
         Ok(plan) => Ok(plan),
         Err(PlanFault::OutOfMemory) => Err(Stop::OutOfMemory),
-        Err(fault) => Err(Stop::Refused(plan_refusal(alloc, &fault)?)),
+        Err(fault) => {
+            let why = fault.to_string(alloc)?;
+            Err(Stop::Refused(plan_refusal(alloc, why.as_str())?))
+        }
     }
 }
 
@@ -112,7 +101,8 @@ pub fn plan_in(alloc: Global, source: &Source<'_>) -> Result<Plan, Stop>
 /// The answer to `plan PLAN`.
 pub fn plan_reply<F: Files>(alloc: Global, word: &str, files: &mut F) -> Result<Reply, Stop>
     ensures { EndsWith
-        (IsPlanAnswer (record { content = F.content files.old; before = F.faults files.old; after = F.faults files.new }) word.now)
+        (IsPlanAnswer
+        (record { content = F.content files.old; before = F.faults files.old; after = F.faults files.new }) word.now)
         result }
 {
     let source = read_source(alloc, files, Kind::Plan, word)?;
@@ -123,7 +113,8 @@ pub fn plan_reply<F: Files>(alloc: Global, word: &str, files: &mut F) -> Result<
 /// The answer to `migrate PLAN`.
 pub fn migrate_reply<F: Files>(alloc: Global, word: &str, files: &mut F) -> Result<Reply, Stop>
     ensures { EndsWith
-        (IsMigrateAnswer (record { content = F.content files.old; before = F.faults files.old; after = F.faults files.new }) word.now)
+        (IsMigrateAnswer
+        (record { content = F.content files.old; before = F.faults files.old; after = F.faults files.new }) word.now)
         result }
 {
     let source = read_source(alloc, files, Kind::Plan, word)?;

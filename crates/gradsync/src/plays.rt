@@ -6,9 +6,11 @@ ghost use Rattle.gs_plan.specs.Plans.{text_of};
 ghost use Rattle.gs_script.specs.Faults.{why_of};
 ghost use Rattle.gs_script.specs.Reading.{script_of};
 ghost use Rattle.gs_play.specs.Scripts.{breach_of_script};
+ghost use Rattle.gs_play.specs.StopTexts.{stop_text};
+ghost use Rattle.gradsync.specs.Answers.{line};
 ghost use Rattle.gradsync.specs.Commands.{number_within};
 ghost use Rattle.gradsync.specs.Plans.{plan_in};
-ghost use Rattle.gradsync.specs.Plays.{IsPlayBy, IsPlayIn, IsPlayed, breached, said_from};
+ghost use Rattle.gradsync.specs.Plays.{IsAnswerToPlan, IsPlayAnswer, played, said_from};
 ghost use Rattle.gradsync.specs.Plays.{script_in, script_refused, steady_from};
 ghost use Rattle.gradsync.specs.Reply.{answer_in};
 ghost use Rattle.gradsync.specs.SourceSeen.{source_in};
@@ -33,11 +35,12 @@ fn script_refusal(alloc: Global, fault: &ScriptFault) -> Result<Reply, AllocErro
     ensures { IfOk result (λ reply. answer_in reply ≡ script_refused (why_of fault.now)) }
 {
     let why = fault.to_string(alloc)?;
-    let mut text = Lines::new(alloc);
-    text.word("script refused: ")?;
-    text.word(why.as_str())?;
-    text.end()?;
-    Ok(Reply::Text(Status::InputRefused, text))
+    Reply::line_of(
+        alloc,
+        Status::InputRefused,
+        "script refused: ",
+        why.as_str(),
+    )
 }
 
 /// The script of so many quanta without a record.
@@ -82,24 +85,19 @@ fn script_in(alloc: Global, source: &Source<'_>, plan: &Plan) -> Result<Script, 
     }
 }
 
-/// The line of a breach.
-fn breach_line(alloc: Global, quantum: u32, from: u32, to: u32) -> Result<Reply, AllocError>
-    ensures { IfOk result (λ reply.
-        answer_in reply ≡ breached (record { quantum = quantum; from = from; to = to })) }
+/// The line that a play stops with.
+fn breach_line(alloc: Global, stop: &PlayStop) -> Result<Reply, AllocError>
+    ensures { IfOk result (λ reply. answer_in reply ≡ line Status.Breach (stop_text stop.now)) }
 {
+    let words = stop.to_string(alloc)?;
     let mut text = Lines::new(alloc);
-    text.word("breach at quantum ")?;
-    text.num(u128::from(quantum))?;
-    text.word(": stale ")?;
-    text.num(u128::from(from))?;
-    text.word(" ")?;
-    text.num(u128::from(to))?;
+    text.word(words.as_str())?;
     text.end()?;
     Ok(Reply::Text(Status::Breach, text))
 }
 
 /// What playing a script by one worker answers.
-#[tactic(auto, using(crate::proofs::Inputs::reported_within))]
+#[tactic(auto, using(crate::proofs::Inputs::playing))]
 fn played<G: Gate>(
     alloc: Global,
     plan: &Plan,
@@ -108,12 +106,12 @@ fn played<G: Gate>(
 ) -> Result<Reply, AllocError>
     requires { script.now.text ≡ text_of plan.now }
     ensures { IfOk result (λ reply.
-        IsPlayed plan.now script.now (breach_of_script plan.now script.now) (answer_in reply)) }
+        answer_in reply ≡ played plan.now script.now (breach_of_script plan.now script.now)) }
 {
     match gs_play::play(alloc, plan, script, 1, gate) {
         Ok(report) => Ok(Reply::Text(Status::Done, report.text(alloc, plan)?)),
-        Err(PlayStop::Stale { quantum, from, to }) => breach_line(alloc, quantum, from, to),
         Err(PlayStop::OutOfMemory) => Err(AllocError),
+        Err(stop) => breach_line(alloc, &stop),
     }
 }
 
@@ -125,7 +123,7 @@ fn play_sources<G: Gate>(
     script: &Source<'_>,
     gate: &G,
 ) -> Result<Reply, Stop>
-    ensures { EndsWith (IsPlayIn (plan_in (source_in plan.now)) (source_in script.now)) result }
+    ensures { EndsWith (IsAnswerToPlan (plan_in (source_in plan.now)) (source_in script.now)) result }
 {
     let plan = plans::plan_in(alloc, plan)?;
     let script = script_in(alloc, script, &plan)?;
@@ -141,7 +139,7 @@ pub fn play_reply<F: Files, G: Gate>(
     gate: &G,
 ) -> Result<Reply, Stop>
     ensures { EndsWith
-        (IsPlayBy
+        (IsPlayAnswer
         (record { content = F.content files.old; before = F.faults files.old; after = F.faults files.new })
         plan.now script.now true)
         result }

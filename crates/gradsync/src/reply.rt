@@ -1,9 +1,10 @@
-ghost use Rattle.std.specs.Prelude.{◌≡◌, ◌⊎◌};
-ghost use Rattle.gradsync.specs.Answers.{Gives};
+ghost use Rattle.std.specs.Prelude.{◌≡◌, ◌⊎◌, ◌++◌, IfOk};
+ghost use Rattle.gradsync.specs.Answers.{Gives, line};
 
 use crate::status::Status;
 use gs_io::{Failed, Sink};
 use gs_text::Lines;
+use std::alloc::{AllocError, Global};
 
 /// What is written for some words, and the status that follows.
 #[derive(Drop)]
@@ -18,6 +19,22 @@ pub enum Reply {
 
 impl Reply {
     ghost use Rattle.gradsync.specs.Reply.{answer_in};
+
+    /// A line of two words, of which the first ends with its own space.
+    pub fn line_of(
+        alloc: Global,
+        status: Status,
+        first: &str,
+        second: &str,
+    ) -> Result<Reply, AllocError>
+        ensures { IfOk result (λ reply. answer_in reply ≡ line status (first.now ++ second.now)) }
+    {
+        let mut text = Lines::new(alloc);
+        text.word(first)?;
+        text.word(second)?;
+        text.end()?;
+        Ok(Reply::Text(status, text))
+    }
 
     /// Writes all of it, a text one line a write, and answers its status; `WriteFault` where a write
     /// fails.

@@ -1,9 +1,7 @@
 //! What the words PLAN and SCRIPT name: built-in inputs and files. See `docs/FORMATS.md`, "Commands".
 
-ghost use Rattle.std.specs.Prelude.{◌≡◌, ◌++◌, ◌≤◌, ℕ, List, IfOk, IfErr, Ok, Err, Some, None};
+ghost use Rattle.std.specs.Prelude.{◌≡◌, ◌≤◌, ℕ, List, IfOk, IfErr, Ok, Err, Some, None};
 ghost use Rattle.std.specs.Prelude.{option_map, if◌then◌else◌, drop, length};
-ghost use Rattle.gradsync.specs.Answers.{line};
-ghost use Rattle.gradsync.specs.Reply.{answer_in};
 ghost use Rattle.gradsync.specs.SourceSeen.{given_in, source_in};
 ghost use Rattle.gradsync.specs.Sources.{Gave, IsRead, is_built_in, prefix_of, source_of};
 ghost use Rattle.gradsync.specs.Stops.{StopsAt, StopsWith};
@@ -13,7 +11,6 @@ use crate::reply::Reply;
 use crate::status::Status;
 use crate::stop::Stop;
 use gs_io::Files;
-use gs_text::Lines;
 use std::alloc::{AllocError, Global};
 
 /// The most bytes of a plan or a script.
@@ -55,17 +52,6 @@ fn count_after(kind: Kind, word: &str) -> Option<&str>
     }
 }
 
-/// A line of a word and a name.
-fn name_line(alloc: Global, status: Status, word: &str, name: &str) -> Result<Reply, AllocError>
-    ensures { IfOk result (λ reply. answer_in reply ≡ line status (word.now ++ name.now)) }
-{
-    let mut text = Lines::new(alloc);
-    text.word(word)?;
-    text.word(name)?;
-    text.end()?;
-    Ok(Reply::Text(status, text))
-}
-
 /// What a word gives. A word that begins with the prefix of its kind reads no file.
 fn read_given<'w, F: Files>(
     alloc: Global,
@@ -96,13 +82,13 @@ fn source_of(alloc: Global, given: Given<'_>) -> Result<Source<'_>, Stop>
     match given {
         Given::BuiltIn(count) => Ok(Source::Count(count)),
         Given::File(_, Reading::Bytes(bytes)) => Ok(Source::Text(bytes)),
-        Given::File(name, Reading::TooLong) => Err(Stop::Refused(name_line(
+        Given::File(name, Reading::TooLong) => Err(Stop::Refused(Reply::line_of(
             alloc,
             Status::TooLong,
             "too long: ",
             name,
         )?)),
-        Given::File(name, Reading::Failed) => Err(Stop::Refused(name_line(
+        Given::File(name, Reading::Failed) => Err(Stop::Refused(Reply::line_of(
             alloc,
             Status::ReadFault,
             "read failed: ",

@@ -1,11 +1,11 @@
 ghost use Rattle.std.specs.Prelude.{◌≡◌, ◌==◌, ◌⊎◌, map, string_bytes, Some, None, IsOk, IfOk};
 ghost use Rattle.gradsync.specs.Commands.{command_of};
 ghost use Rattle.gradsync.specs.Meaning.{meaning};
-ghost use Rattle.gradsync.specs.Plays.{IsPlayBy};
+ghost use Rattle.gradsync.specs.Plays.{IsPlayAnswer};
 ghost use Rattle.gradsync.specs.Stops.{EndsWith};
 ghost use Rattle.gradsync.specs.Completeness.{CompletesPlans, CompletesPlays};
 ghost use Rattle.gradsync.specs.Headline.{PlaysKeepBounds};
-ghost use Rattle.gradsync.specs.Runs.{IsAnswer, IsAnswerTo, Runs};
+ghost use Rattle.gradsync.specs.Runs.{IsAnswer, IsCommandAnswer, Runs};
 ghost use Rattle.gradsync.specs.Reply.{answer_in};
 
 use crate::command::{self, Command};
@@ -88,7 +88,7 @@ fn answer_to<F: Files, G: Gate>(
     gate: &G,
 ) -> Result<Reply, Stop>
     ensures { EndsWith
-        (IsAnswerTo
+        (IsCommandAnswer
         (record { content = F.content files.old; before = F.faults files.old; after = F.faults files.new })
         (Some (meaning command.entry)))
         result }
@@ -115,7 +115,7 @@ fn play<F: Files, G: Gate>(
     gate: &G,
 ) -> Result<Reply, Stop>
     ensures { EndsWith
-        (IsPlayBy
+        (IsPlayAnswer
         (record { content = F.content files.old; before = F.faults files.old; after = F.faults files.new })
         plan.now script.now (workers == 1))
         result }
