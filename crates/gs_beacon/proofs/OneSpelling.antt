@@ -1,18 +1,13 @@
-use Rattle.std.proofs.Common.{◌≡◌, ℕ, ◌<◌, List, length, slice_index, sym, ◌∙◌, inl, inr, arith, rules}
+-- A beacon has one spelling: equal numbers have equal bytes.
+use Rattle.std.proofs.Common.{◌≡◌, ℕ, ◌<◌, List, slice_index, sym, ◌∙◌, inl, inr, arith, rules}
 use Rattle.std.proofs.lemmas.Bool.{cases_lt}
-use Rattle.std.proofs.lemmas.List.{ext_get_or, get_or_past}
-use Rattle.std.proofs.lemmas.List.Elements.{All-get_or}
-use Rattle.gs_beacon.specs.Beacons.{Spells}
-use Rattle.gs_beacon.specs.Spelling.{AreBytes, HasOneSpelling, SpellsOneBeacon}
+use Rattle.std.proofs.lemmas.List.{ext_get_or}
+use Rattle.gs_beacon.specs.Beacons.{Spells, bytes_of}
+use Rattle.gs_beacon.specs.Numbers.{AreBytes}
+use Rattle.gs_beacon.specs.Spelling.{HasOneSpelling, SpellsOneBeacon, SpellingIsBytes}
 use Rattle.gs_beacon.specs.declared.beacon.Beacon.{Beacon}
-use Rattle.gs_beacon.proofs.Digits.{field-same}
-
--- a byte at any place, and 0 behind the last
-AreBytes-slice_index : (xs : List ℕ) → AreBytes xs → (k : ℕ) → slice_index xs k < 256
-AreBytes-slice_index xs bytes k = elim (cases_lt k (length xs)) [
-  | inl inside ↦ All-get_or (λ x. x < 256) xs k 0 inside bytes
-  | inr past ↦ rw (get_or_past xs k 0 past) (omega arith)
-]
+use Rattle.gs_beacon.proofs.Digits.{AreBytes-slice_index, field-same, number_at-lt}
+use Rattle.gs_beacon.proofs.Written.{spells-written, AreBytes-bytes_of}
 
 -- two spellings of a beacon agree at each place
 byte-same : (b : Beacon) (xs ys : List ℕ) → AreBytes xs → AreBytes ys → Spells b xs → Spells b ys → (i : ℕ) → i < 40 → slice_index xs i ≡ slice_index ys i
@@ -47,3 +42,16 @@ has_one_spelling b xs ys ax ay sx sy = ext_get_or 0 xs ys (sx.count ∙ sym sy.c
 -- the fields of bytes are those of one beacon at most
 pub spells_one_beacon : SpellsOneBeacon
 spells_one_beacon b c bytes sb sc = search rules
+
+-- and so they are the beacon's bytes, since what bytes spell fits its field
+pub spelling-is_bytes : SpellingIsBytes
+spelling-is_bytes b bytes are spells =
+    let cluster = number_at-lt 4 4 bytes are in
+    let sender = number_at-lt 8 4 bytes are in
+    let seq = number_at-lt 16 8 bytes are in
+    let written = spells-written b spells.valid record {
+      cluster = omega (arith, cluster, spells.cluster);
+      sender = omega (arith, sender, spells.sender);
+      seq = omega (arith, seq, spells.seq);
+    } in
+    has_one_spelling b bytes (bytes_of b) are (AreBytes-bytes_of b) spells written

@@ -1,33 +1,16 @@
-use Rattle.std.proofs.Common.{◌≡◌, ℕ, ◌^◌, ◌<◌, List, [], ◌++◌, length, drop, refl, append_assoc, append-nil, arith}
-use Rattle.std.proofs.Math.Seq.{drop-append_seam}
+-- The bytes of a beacon spell it.
+use Rattle.std.proofs.Common.{◌≡◌, ℕ, ◌<◌, List, [], ◌++◌, refl, append_assoc, append-nil, arith}
 use Rattle.byteorder.specs.Endian.{big_bytes}
-use Rattle.byteorder.specs.Numbers.{big_number-reads_back}
-use Rattle.gs_beacon.specs.Beacons.{IsBeacon, Spells, magic, number_at}
+use Rattle.gs_beacon.specs.Beacons.{magic, head_bytes, number_bytes, bytes_of}
+use Rattle.gs_beacon.specs.Numbers.{AreBytes}
+use Rattle.gs_beacon.specs.Spelling.{BytesSpell}
 use Rattle.gs_beacon.specs.declared.beacon.Beacon.{Beacon}
+use Rattle.gs_beacon.proofs.Digits.{number_at-behind, AreBytes-big_bytes}
+use Rattle.std.proofs.lemmas.List.Elements.{All-append}
 
--- the first 16 bytes of a beacon, and the last 24
-abbrev pub head_bytes : Beacon → List ℕ
-head_bytes b = big_bytes 4 magic ++ (big_bytes 4 b.cluster ++ (big_bytes 4 b.sender ++ big_bytes 4 0))
-
-abbrev pub number_bytes : Beacon → List ℕ
-number_bytes b = big_bytes 8 b.seq ++ (big_bytes 8 b.l ++ big_bytes 8 b.m)
-
--- a number that stands behind k bytes is read back from there
-pub number_at-behind : (n x k : ℕ) (xs ys : List ℕ) → length xs ≡ k → x < 256 ^ n → number_at k n (xs ++ (big_bytes n x ++ ys)) ≡ x
-unfolding number_at
-number_at-behind n x k xs ys count small =
-    let seam : drop (length xs) (xs ++ (big_bytes n x ++ ys)) ≡ big_bytes n x ++ ys = drop-append_seam xs (big_bytes n x ++ ys) in
-    let at : drop k (xs ++ (big_bytes n x ++ ys)) ≡ big_bytes n x ++ ys = rw count at seam in
-    rw at (big_number-reads_back n x ys small)
-
--- the numbers of a beacon that fit their fields
-pub record Fits (b : Beacon) : Type 0 where
-  pub cluster : b.cluster < 2 ^ 32
-  pub sender : b.sender < 2 ^ 32
-  pub seq : b.seq < 2 ^ 64
-
--- these bytes spell the beacon
-pub spells-written : (b : Beacon) → IsBeacon b → Fits b → Spells b (head_bytes b ++ number_bytes b)
+-- each field is read back from its place
+pub spells-written : BytesSpell
+unfolding bytes_of
 spells-written b valid fits =
     let first : List ℕ = big_bytes 4 magic in
     let cluster : List ℕ = big_bytes 4 b.cluster in
@@ -52,3 +35,10 @@ spells-written b valid fits =
       l = rw at_l (number_at-behind 8 b.l 24 (head_bytes b ++ seq) m refl (omega (arith, valid.order, valid.near)));
       m = rw at_m (number_at-behind 8 b.m 32 (head_bytes b ++ (seq ++ l)) [] refl (omega (arith, valid.near)));
     }
+
+-- the bytes of a beacon are bytes
+pub AreBytes-bytes_of : (b : Beacon) → AreBytes (bytes_of b)
+unfolding bytes_of
+AreBytes-bytes_of b =
+    let both : (xs ys : List ℕ) → AreBytes xs → AreBytes ys → AreBytes (xs ++ ys) = λ xs ys h k. All-append (λ x. x < 256) xs ys h k in
+    search (both, AreBytes-big_bytes)

@@ -1,5 +1,7 @@
-use Rattle.std.specs.Prelude.{◌≡◌, ℕ, codes, ◌^◌, ◌<◌, ◌≤◌, ◌==◌, not, nat_lt, nat_le, List, length, drop, Option, Some, None, if◌then◌else◌}
-use Rattle.byteorder.specs.Endian.{big_number}
+-- What a beacon is, and what its 40 bytes are.
+use Rattle.std.specs.Prelude.{◌≡◌, ℕ, codes, ◌++◌, ◌^◌, ◌<◌, ◌≤◌, ◌==◌, not, nat_lt, nat_le, List, length, Option, Some, None, if◌then◌else◌}
+use Rattle.byteorder.specs.Endian.{big_bytes, big_number}
+pub use Rattle.gs_beacon.specs.Numbers.{number_at}
 use Rattle.gs_beacon.specs.declared.beacon.Beacon.{Beacon}
 use Rattle.gs_beacon.specs.declared.beacon.BeaconFault.{BeaconFault}
 use Rattle.gs_beacon.specs.declared.beacon.BeaconFault.TheVariants.{Length, Magic, Zero, Sequence, Order, Far}
@@ -10,13 +12,27 @@ pub record IsBeacon (b : Beacon) : Type 0 where
   pub order : b.l ≤ b.m
   pub near : b.m < 2 ^ 62
 
--- the number in the n bytes from a place, the highest byte first
-unfoldable pub number_at : ℕ → ℕ → List ℕ → ℕ
-number_at from n bytes = big_number n (drop from bytes)
+-- the numbers of a beacon fit their fields, as those of every `Beacon` in the code do
+pub record FitsFields (b : Beacon) : Type 0 where
+  pub cluster : b.cluster < 2 ^ 32
+  pub sender : b.sender < 2 ^ 32
+  pub seq : b.seq < 2 ^ 64
 
 -- the number that "GCS1" spells
 abbrev pub magic : ℕ
 magic = big_number 4 (codes "GCS1")
+
+-- The bytes of a beacon, field by field: the first 16 tell what it is and who sends it,
+abbrev pub head_bytes : Beacon → List ℕ
+head_bytes b = big_bytes 4 magic ++ (big_bytes 4 b.cluster ++ (big_bytes 4 b.sender ++ big_bytes 4 0))
+
+-- and the last 24 are its sequence, its clock and its maximum.
+abbrev pub number_bytes : Beacon → List ℕ
+number_bytes b = big_bytes 8 b.seq ++ (big_bytes 8 b.l ++ big_bytes 8 b.m)
+
+-- all 40
+unfoldable pub bytes_of : Beacon → List ℕ
+bytes_of b = head_bytes b ++ number_bytes b
 
 -- The fields of a beacon's 40 bytes: bytes 0 to 3, which are "GCS1";
 abbrev pub magic_of : List ℕ → ℕ
@@ -45,6 +61,16 @@ l_of bytes = number_at 24 8 bytes
 -- bytes 32 to 39, the maximum.
 abbrev pub m_of : List ℕ → ℕ
 m_of bytes = number_at 32 8 bytes
+
+-- the beacon that the fields name
+abbrev pub beacon_at : List ℕ → Beacon
+beacon_at bytes = record {
+  cluster = cluster_of bytes;
+  sender = sender_of bytes;
+  seq = seq_of bytes;
+  l = l_of bytes;
+  m = m_of bytes;
+}
 
 -- the bytes are those of this beacon, field by field
 pub record Spells (b : Beacon) (bytes : List ℕ) : Type 0 where

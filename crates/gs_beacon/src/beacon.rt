@@ -1,7 +1,9 @@
-ghost use Rattle.std.specs.Prelude.{◌≡◌, ◌+◌, ◌≤◌, ◌++◌, length, drop, IfOk, IfErr, Ok, Err, Some};
+ghost use Rattle.std.specs.Prelude.{◌≡◌, ◌≤◌, ◌++◌, length, drop, IfOk, IfErr, Ok, Err, Some};
 ghost use Rattle.byteorder.specs.Endian.{big_bytes};
-ghost use Rattle.gs_beacon.specs.Beacons.{IsBeacon, Spells, fault_of, number_at};
+ghost use Rattle.gs_beacon.specs.Beacons.{IsBeacon, Spells, bytes_of, fault_of};
 
+use crate::layout::{CLOCK, CLUSTER, LENGTH, MAGIC, MAXIMUM, SENDER, SEQ, ZEROS};
+use crate::number::{u32_at, u64_at};
 use byteorder::{BigEndian, ByteOrder};
 use gs_units::END;
 use thiserror::Error;
@@ -44,13 +46,11 @@ pub enum BeaconFault {
     Far,
 }
 
-/// "GCS1" as a big-endian number.
-const MAGIC: u32 = 0x4743_5331;
-
 /// The bytes that spell a beacon: `docs/FORMATS.md`, "Beacon".
-pub fn encode(b: &Beacon) -> [u8; 40]
+pub fn encode(b: &Beacon) -> [u8; LENGTH]
     requires { IsBeacon b.now }
-    ensures { Spells b.now result }
+    ensures bytes { result ≡ bytes_of b.now }
+    ensures spells { Spells b.now result }
 {
     let Beacon {
         cluster,
@@ -59,32 +59,32 @@ pub fn encode(b: &Beacon) -> [u8; 40]
         l,
         m,
     } = *b;
-    let mut bytes = [0; 40];
+    let mut bytes = [0; LENGTH];
     write_head(&mut bytes, cluster, sender);
-    write_numbers(&mut bytes[16..], seq, l, m);
+    write_numbers(&mut bytes[SEQ..], seq, l, m);
     bytes
 }
 
-/// Writes what tells a beacon and its sender: the first 16 bytes.
+/// Writes what tells a beacon and its sender: all before the sequence.
 fn write_head(bytes: &mut [u8], cluster: u32, sender: u32)
     requires { 16 ≤ length bytes.old }
     ensures { bytes.new ≡ (big_bytes 4 MAGIC ++ (big_bytes 4 cluster ++ (big_bytes 4 sender ++ big_bytes 4 0)))
         ++ drop 16 bytes.old }
 {
     BigEndian::write_u32(bytes, MAGIC);
-    BigEndian::write_u32(&mut bytes[4..], cluster);
-    BigEndian::write_u32(&mut bytes[8..], sender);
-    BigEndian::write_u32(&mut bytes[12..], 0);
+    BigEndian::write_u32(&mut bytes[CLUSTER..], cluster);
+    BigEndian::write_u32(&mut bytes[SENDER..], sender);
+    BigEndian::write_u32(&mut bytes[ZEROS..], 0);
 }
 
-/// Writes the sequence, the clock and the maximum: the last 24 bytes.
+/// Writes the sequence, the clock and the maximum into the bytes from the sequence on.
 fn write_numbers(bytes: &mut [u8], seq: u64, l: u64, m: u64)
     requires { 24 ≤ length bytes.old }
     ensures { bytes.new ≡ (big_bytes 8 seq ++ (big_bytes 8 l ++ big_bytes 8 m)) ++ drop 24 bytes.old }
 {
     BigEndian::write_u64(bytes, seq);
-    BigEndian::write_u64(&mut bytes[8..], l);
-    BigEndian::write_u64(&mut bytes[16..], m);
+    BigEndian::write_u64(&mut bytes[CLOCK - SEQ..], l);
+    BigEndian::write_u64(&mut bytes[MAXIMUM - SEQ..], m);
 }
 
 /// The beacon that bytes spell, or the first fault in the order of `BeaconFault`.
@@ -97,21 +97,21 @@ pub fn decode(bytes: &[u8]) -> Result<Beacon, BeaconFault>
     ensures every_spelling { (b : Beacon) → Spells b bytes.now → result ≡ Ok b }
     ensures every_fault { (f : BeaconFault) → fault_of bytes.now ≡ Some f → result ≡ Err f }
 {
-    if bytes.len() != 40 {
+    if bytes.len() != LENGTH {
         return Err(BeaconFault::Length);
     }
     if u32_at(bytes, 0) != MAGIC {
         return Err(BeaconFault::Magic);
     }
-    if u32_at(bytes, 12) != 0 {
+    if u32_at(bytes, ZEROS) != 0 {
         return Err(BeaconFault::Zero);
     }
     let beacon = Beacon {
-        cluster: u32_at(bytes, 4),
-        sender: u32_at(bytes, 8),
-        seq: u64_at(bytes, 16),
-        l: u64_at(bytes, 24),
-        m: u64_at(bytes, 32),
+        cluster: u32_at(bytes, CLUSTER),
+        sender: u32_at(bytes, SENDER),
+        seq: u64_at(bytes, SEQ),
+        l: u64_at(bytes, CLOCK),
+        m: u64_at(bytes, MAXIMUM),
     };
     if beacon.seq == 0 {
         return Err(BeaconFault::Sequence);
@@ -123,22 +123,4 @@ pub fn decode(bytes: &[u8]) -> Result<Beacon, BeaconFault>
         return Err(BeaconFault::Far);
     }
     Ok(beacon)
-}
-
-/// The big-endian number in the 4 bytes from a place.
-#[tactic(auto, unfolding(crate::specs::Beacons::number_at))]
-fn u32_at(bytes: &[u8], from: usize) -> u32
-    requires { from + 4 ≤ length bytes.now }
-    ensures { result ≡ number_at from 4 bytes.now }
-{
-    BigEndian::read_u32(&bytes[from..])
-}
-
-/// The big-endian number in the 8 bytes from a place.
-#[tactic(auto, unfolding(crate::specs::Beacons::number_at))]
-fn u64_at(bytes: &[u8], from: usize) -> u64
-    requires { from + 8 ≤ length bytes.now }
-    ensures { result ≡ number_at from 8 bytes.now }
-{
-    BigEndian::read_u64(&bytes[from..])
 }

@@ -1,15 +1,17 @@
-use crate::{Beacon, BeaconFault, decode, encode};
+use crate::{
+    Beacon, BeaconFault, LENGTH, decode, encode, numbers_in_bytes, spelling, u32_at, u64_at,
+};
 use std::test::Fail;
 
 /// The beacon of cluster 7, sender 3, sequence 1, with clock and maximum 1000000.
-const SPELLED: [u8; 40] =
+const SPELLED: [u8; LENGTH] =
     *b"GCS1\0\0\0\x07\0\0\0\x03\0\0\0\0\0\0\0\0\0\0\0\x01\0\0\0\0\0\x0f\x42\x40\0\0\0\0\0\x0f\x42\x40";
 
 /// These bytes with others at some places.
-fn edited(edits: &[(usize, u8)]) -> [u8; 40] {
+fn edited(edits: &[(usize, u8)]) -> [u8; LENGTH] {
     let mut bytes = SPELLED;
     for (place, byte) in edits.iter().copied() {
-        if place < 40 {
+        if place < LENGTH {
             bytes[place] = byte;
         }
     }
@@ -48,4 +50,17 @@ fn names_the_first_fault(rt: HostRuntime) {
     for (edits, fault) in cases {
         assert_eq!(rt; decode(&edited(edits)), Err(fault), "at {edits:?}");
     }
+}
+
+#[test]
+fn numbers_are_read_highest_byte_first(rt: HostRuntime) {
+    let bytes = [0, 1, 2, 3, 4, 5, 6, 7, 8];
+    assert_eq!(rt; u32_at(&bytes, 5), 0x0506_0708);
+    assert_eq!(rt; u64_at(&bytes, 1), 0x0102_0304_0506_0708);
+}
+
+#[test]
+fn laws_cost_nothing() {
+    spelling();
+    numbers_in_bytes();
 }

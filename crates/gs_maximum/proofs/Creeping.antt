@@ -1,5 +1,6 @@
+-- How far a maximum creeps.
 use Rattle.std.proofs.Common.{◌≡◌, ℕ, ◌+◌, ◌-◌, ◌*◌, ◌≤◌, arith}
-use Rattle.std.proofs.Math.Nat.{div-add-mod', mul-le-mul_right, le-div_iff_mul-le, div-le_of_le-mul}
+use Rattle.std.proofs.Math.Nat.{div-add-mod', mul-le-mul_left, mul-le-mul_right, le-div_iff_mul-le, div-le_of_le-mul}
 use Rattle.gs_units.specs.Rates.{creep_of, g_of}
 use Rattle.gs_units.specs.declared.rate.Rate.{Rate}
 use Rattle.gs_units.proofs.Growing.{positive, scaled-least}
@@ -22,6 +23,13 @@ creep-least rate k =
     let left : g_of rate * k * rate.hi ≡ g_of rate * rate.hi * k = grind arith in
     let right : rate.lo * k * rate.lo ≡ rate.lo * rate.lo * k = grind arith in
     (le-div_iff_mul-le (positive rate)).1 (omega (arith, scaled, left, right))
+
+-- a creep is at most the growth of the reading
+pub creep_at_most : (rate : Rate) (h : ℕ) → creep_of rate h ≤ h
+creep_at_most rate h =
+    let scaled : h * rate.lo ≤ h * rate.hi = mul-le-mul_left h (omega (arith, rate.accepted.above)) in
+    let turned : h * rate.hi ≡ rate.hi * h = grind arith in
+    div-le_of_le-mul rate.hi (omega (arith, scaled, turned))
 
 -- the least creep of a quantum is at most lo
 pub g-below : (rate : Rate) → g_of rate ≤ rate.lo

@@ -1,3 +1,4 @@
+-- What hearing does to a maximum.
 use Rattle.std.proofs.Common.{◌*◌, ◌≤◌, arith, rules}
 use Rattle.std.proofs.Math.Nat.{mul-le-mul_left}
 use Rattle.gs_maximum.specs.NeverAhead.{JumpStaysBehind, HearingStaysBehind, EstimateStaysBehind}

@@ -1,3 +1,4 @@
+-- How far a maximum lags, hop by hop.
 use Rattle.std.proofs.Common.{◌≡◌, ℕ, ◌+◌, ◌-◌, ◌*◌, ◌≤◌, arith}
 use Rattle.std.proofs.Math.Nat.{mul-le-mul_left, mul-le-mul_right, mul-add, add-mul}
 use Rattle.gs_units.specs.Rates.{g_of}

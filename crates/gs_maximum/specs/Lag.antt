@@ -1,10 +1,9 @@
+-- How far a maximum may lag behind the greatest clock. Ages and delays are in quanta.
 use Rattle.std.specs.Prelude.{ℕ, ◌+◌, ◌-◌, ◌*◌, ◌≤◌}
 use Rattle.gs_units.specs.Rates.{g_of}
 use Rattle.gs_units.specs.declared.rate.Rate.{Rate}
 use Rattle.gs_maximum.specs.Maximum.{heard_of, raised_to}
 use Rattle.gs_maximum.specs.declared.maximum.Max.{Max}
-
--- How far a maximum may lag behind the greatest clock. Ages and delays are in quanta.
 
 -- The maximum m tells of the value that a maximum or a clock had `since` quanta ago, at most `age`: the value has
 -- crept on by at least g in each, and at most `slack` of it was lost on the way.

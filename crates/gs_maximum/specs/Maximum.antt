@@ -1,3 +1,4 @@
+-- What a node knows of the greatest clock.
 use Rattle.std.specs.Prelude.{ℕ, ◌+◌, ◌-◌, max, nat_lt, if◌then◌else◌}
 use Rattle.gs_units.specs.Rates.{creep_of}
 use Rattle.gs_units.specs.declared.rate.Rate.{Rate}

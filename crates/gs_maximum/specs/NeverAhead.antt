@@ -1,10 +1,9 @@
+-- No maximum passes the greatest clock. In this file `reached` is what the greatest clock had reached at some time,
+-- and `grown` what it has grown by in the k quanta since: at least lo in each.
 use Rattle.std.specs.Prelude.{ℕ, ◌+◌, ◌*◌, ◌≤◌}
 use Rattle.gs_units.specs.declared.rate.Rate.{Rate}
 use Rattle.gs_maximum.specs.Maximum.{heard_of, maximum_of, raised_to}
 use Rattle.gs_maximum.specs.declared.maximum.Max.{Max}
-
--- No maximum passes the greatest clock. In this file `reached` is what the greatest clock had reached at some time,
--- and `grown` what it has grown by in the k quanta since: at least lo in each.
 
 -- what was heard stays behind, while it creeps
 abbrev pub CreepStaysBehind : Type 0

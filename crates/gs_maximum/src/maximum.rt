@@ -1,4 +1,4 @@
-ghost use Rattle.std.specs.Prelude.{◌≡◌, ◌<◌, ◌≤◌};
+ghost use Rattle.std.specs.Prelude.{◌≡◌, ◌<◌, ◌≤◌, nat_lt};
 
 use gs_units::{END, Rate};
 
@@ -33,12 +33,26 @@ impl Max {
         requires base { self.old.base < END }
         ensures { self.new ≡ raised_to rate.now self.old value now }
     {
-        if value > self.heard(rate, now) {
+        if self.is_passed(rate, value, now) {
             *self = Max {
                 base: value,
                 at: now,
             };
         }
+    }
+
+    /// Whether a value is greater than what was heard and has crept since. The creep is at most the
+    /// growth of the reading, so only a value between the two needs its division.
+    #[tactic(auto, using(crate::proofs::Creeping::creep_at_most))]
+    fn is_passed(&self, rate: &Rate, value: u64, now: u64) -> bool
+        requires before { (self.now.at ≤ now) × (now < END) }
+        requires base { self.now.base < END }
+        ensures { result ≡ nat_lt (heard_of rate.now self.now now) value }
+    {
+        if value <= self.base {
+            return false;
+        }
+        value > self.base + (now - self.at) || value > self.heard(rate, now)
     }
 
     /// What was heard of the greatest clock, crept on to the reading `now`.

@@ -1,3 +1,4 @@
+-- Clocks grow in each quantum by what a rate says.
 use Rattle.std.proofs.Common.{◌≡◌, ℕ, ◌+◌, ◌*◌, ◌/◌, ◌<◌, ◌≤◌, arith, refl, List, [], ◌∷◌, length, sum, All}
 use Rattle.std.proofs.Math.Nat.{div-add-mod', mod-lt, mul-le-mul_right, add-mul, le-div_iff_mul-le, div-lt_iff_lt-mul, div-le_of_le-mul}
 use Rattle.std.proofs.lemmas.List.Elements.{All-head, All-tail}

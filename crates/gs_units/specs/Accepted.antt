@@ -1,3 +1,4 @@
+-- Which numbers a rate may have, and the two quotients that it makes.
 use Rattle.std.specs.Prelude.{ℕ, ◌*◌, ◌/◌, ◌<◌, ◌≤◌, ◌^◌}
 
 -- the numbers that a rate may have

@@ -1,3 +1,4 @@
+-- What is wrong with the numbers of a rate.
 use Rattle.std.specs.Prelude.{ℕ, ◌^◌, ◌||◌, ◌==◌, nat_lt, nat_le, if◌then◌else◌, Option, Some, None}
 use Rattle.gs_units.specs.declared.rate.RateFault.{RateFault}
 use Rattle.gs_units.specs.declared.rate.RateFault.TheVariants.{Low, High, Boost}

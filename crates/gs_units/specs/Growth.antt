@@ -1,3 +1,4 @@
+-- What clocks grow by in one quantum and in many.
 use Rattle.std.specs.Prelude.{◌≡◌, ℕ, ◌+◌, ◌*◌, ◌≤◌, List, length, sum, All}
 use Rattle.gs_units.specs.Rates.{creep_of, steer_of, q_of, g_of, top_of}
 use Rattle.gs_units.specs.declared.rate.Rate.{Rate}

@@ -3,6 +3,8 @@ pub mod Faults
 pub mod Rates
 pub mod Delays
 pub mod Offsets
+pub mod Levels
 pub mod Growth
 pub mod Params
+pub mod Equality
 pub mod Words

@@ -1,3 +1,4 @@
+-- The numbers of a rate, in clock units.
 use Rattle.std.specs.Prelude.{◌≡◌, ℕ, ◌+◌, ◌-◌, ◌/◌}
 use Rattle.gs_units.specs.Accepted.{boosted, crept}
 use Rattle.gs_units.specs.declared.rate.Rate.{Rate}
@@ -27,11 +28,11 @@ steer_of rate Fast h = h + boost_of rate h
 abbrev pub r_of : Rate → ℕ
 r_of rate = rate.hi - rate.lo
 
--- the least boost of one quantum
+-- q: the least boost of one quantum
 abbrev pub q_of : Rate → ℕ
 q_of rate = boost_of rate rate.lo
 
--- the least creep of one quantum
+-- g: the least creep of one quantum
 abbrev pub g_of : Rate → ℕ
 g_of rate = creep_of rate rate.lo
 
@@ -43,6 +44,6 @@ top_of rate = rate.hi + boost_of rate rate.hi + 1
 abbrev pub drift_of : Rate → ℕ
 drift_of rate = top_of rate - rate.lo
 
--- how many times the drift of one quantum goes into its boost
+-- how many times r goes into q
 abbrev pub sigma_of : Rate → ℕ
 sigma_of rate = q_of rate / r_of rate

@@ -1,6 +1,7 @@
-ghost use Rattle.std.specs.Prelude.{◌≡◌};
+ghost use Rattle.std.specs.Prelude.{◌≡◌, IfOk};
 
 use crate::rate::Rate;
+use std::alloc::{AllocError, Global};
 use std::marker::Model;
 
 /// What a node is told of the link to one neighbour before it runs, in clock units.
@@ -47,6 +48,38 @@ impl Links {
     {
         &self.items
     }
+
+    /// The same links once more.
+    pub fn copy(&self, alloc: Global) -> Result<Links, AllocError>
+        ensures { IfOk result (λ copy. copy ≡ self.now) }
+    {
+        Ok(Links {
+            items: self.items.as_slice().to_vec(alloc)?,
+        })
+    }
+}
+
+impl PartialEq for Links {
+    ghost use Rattle.std.specs.Bool.{Decides};
+    ghost use Rattle.std.specs.Cmp.{partial_equiv_from_equiv};
+    ghost use Rattle.gs_units.specs.Equality.{same_links, same_links-laws};
+
+    ghost eq = { same_links };
+
+    ghost laws = { partial_equiv_from_equiv same_links-laws };
+
+    fn eq(&self, other: &Links) -> bool
+        ensures value { result ≡ same_links self.now other.now }
+        ensures exact { Decides result (self.now ≡ other.now) }
+    {
+        self.items.as_slice() == other.items.as_slice()
+    }
+}
+
+impl Eq for Links {
+    ghost use Rattle.gs_units.specs.Equality.{same_links-laws};
+
+    ghost laws = { same_links-laws };
 }
 
 /// What a node is told before it runs.
@@ -65,4 +98,48 @@ pub struct NodeParams {
     pub iota: u64,
     /// The node sends a beacon at every `every`-th tick.
     pub every: u32,
+}
+
+impl NodeParams {
+    /// The same parameters once more.
+    pub fn copy(&self, alloc: Global) -> Result<NodeParams, AllocError>
+        ensures { IfOk result (λ copy. copy ≡ self.now) }
+    {
+        Ok(NodeParams {
+            cluster: self.cluster,
+            node: self.node,
+            links: self.links.copy(alloc)?,
+            rate: self.rate,
+            iota: self.iota,
+            every: self.every,
+        })
+    }
+}
+
+impl PartialEq for NodeParams {
+    ghost use Rattle.std.specs.Bool.{Decides};
+    ghost use Rattle.std.specs.Cmp.{partial_equiv_from_equiv};
+    ghost use Rattle.gs_units.specs.Equality.{same_params, same_params-laws};
+
+    ghost eq = { same_params };
+
+    ghost laws = { partial_equiv_from_equiv same_params-laws };
+
+    fn eq(&self, other: &NodeParams) -> bool
+        ensures value { result ≡ same_params self.now other.now }
+        ensures exact { Decides result (self.now ≡ other.now) }
+    {
+        self.cluster == other.cluster
+            && self.node == other.node
+            && self.links == other.links
+            && self.rate == other.rate
+            && self.iota == other.iota
+            && self.every == other.every
+    }
+}
+
+impl Eq for NodeParams {
+    ghost use Rattle.gs_units.specs.Equality.{same_params-laws};
+
+    ghost laws = { same_params-laws };
 }

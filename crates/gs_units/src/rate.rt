@@ -113,7 +113,12 @@ impl Rate {
         requires { h < END }
         ensures { result ≡ boost_of self.now h }
     {
-        (u128::from(h) * u128::from(self.mu) / 1_000_000) as u64
+        // A product below 2^63 needs no wide division; so does the creep.
+        if h < 1 << 46 {
+            h * u64::from(self.mu) / 1_000_000
+        } else {
+            (u128::from(h) * u128::from(self.mu) / 1_000_000) as u64
+        }
     }
 
     /// What any clock has grown by at least while this hardware clock grew by `h`:
@@ -123,7 +128,11 @@ impl Rate {
         ensures value { result ≡ creep_of self.now h }
         ensures at_most { result ≤ h }
     {
-        (u128::from(h) * u128::from(self.lo) / u128::from(self.hi)) as u64
+        if h < 1 << 33 {
+            h * u64::from(self.lo) / u64::from(self.hi)
+        } else {
+            (u128::from(h) * u128::from(self.lo) / u128::from(self.hi)) as u64
+        }
     }
 
     /// The least boost of one quantum: `boost(lo)`.
