@@ -1,5 +1,5 @@
 use Rattle.std.proofs.Common.{◌≡◌, ℕ, ◌+◌, ◌*◌, ◌<◌, ◌≤◌, ◌^◌, inl, inr, arith, ap, sym, refl, ◌∙◌, List, [], ◌++◌, length, map, Bool, true, false, All, slice_index, get_or, get_or-append-add, length-append, Option, Some, None}
-use Rattle.std.specs.List.{flat_map, range_with_len, list_any, position, position_or_len}
+use Rattle.std.specs.List.{range_with_len, list_any, position, position_or_len}
 use Rattle.std.specs.Option.{option_map_or}
 use Rattle.std.proofs.Math.Nat.{add-mul, mul-le-mul_left, mul_comm}
 use Rattle.std.proofs.lemmas.Nat.{mul-add-lt}
@@ -8,15 +8,14 @@ use Rattle.std.proofs.lemmas.List.{get_or_append_left}
 use Rattle.std.proofs.lemmas.List.Sums.{fails_before_first}
 use Rattle.std.proofs.lemmas.List.FromFn.{length-map-range_with_len, get_or-map-range_with_len}
 use Rattle.gs_topo.specs.Graph.{adjacent, Adjacent, joins, neighbours_of, number_of}
-use Rattle.gs_topo.specs.Search.{AreSteps, AreSums, steps_over}
+use Rattle.gs_topo.specs.Search.{AreSteps, AreSums, far_sum, steps_over}
 use Rattle.gs_topo.specs.declared.steps.Step.{Step}
 use Rattle.gs_topo.specs.Walks.{IsGraph, IsLeast, IsWalk, length_of, one_each, distance_of}
 use Rattle.gs_topo.specs.Weights.{Lengths, length_between}
-use Rattle.gs_topo.specs.Weighted.{AreRows, AreWeights}
+use Rattle.gs_topo.specs.Weighted.{AreRows}
 use Rattle.gs_topo.proofs.Members.{member-from_list_any}
 use Rattle.gs_topo.proofs.Walks.{below_walks, sum_is_small, sum_of_equal}
 use Rattle.gs_topo.proofs.Distances.{is_least, is_below}
-use Rattle.gs_topo.proofs.Tables.{at_row, length_at}
 
 -- Tables of weights: by a search, and of equal lengths.
 
@@ -26,7 +25,7 @@ between_small lengths None small = omega arith
 between_small lengths (Some i) small = let s = small i in omega (arith, s)
 
 -- a search from a node finds the least sums, where walks lead everywhere
-pub sum_is_least : (l : Lengths) (source w : ℕ) (sums : List ℕ) → IsGraph l.graph → ((i : ℕ) → slice_index l.lengths i < 2 ^ 64) → AreSums l.graph.nodes (adjacent l.graph) (length_between l) source sums
+pub sum_is_least : (l : Lengths) (source w : ℕ) (sums : List ℕ) → IsGraph l.graph → ((i : ℕ) → slice_index l.lengths i < 2 ^ 64) → AreSums l.graph.nodes (adjacent l.graph) (length_between l) far_sum source sums
     → source < l.graph.nodes → w < l.graph.nodes → IsLeast (Adjacent l.graph) l.graph.nodes (length_between l) source w (slice_index sums w)
 sum_is_least l source w sums is small s hs hw =
     let g = l.graph in
@@ -43,7 +42,7 @@ sum_is_least l source w sums is small s hs hw =
 
 -- one row more
 pub rows_more : (l : Lengths) (source : ℕ) (table sums : List ℕ) → IsGraph l.graph → ((i : ℕ) → slice_index l.lengths i < 2 ^ 64) → source < l.graph.nodes
-    → AreSums l.graph.nodes (adjacent l.graph) (length_between l) source sums → AreRows l source table → AreRows l (source + 1) (table ++ sums)
+    → AreSums l.graph.nodes (adjacent l.graph) (length_between l) far_sum source sums → AreRows l source table → AreRows l (source + 1) (table ++ sums)
 rows_more l source table sums is small hs s rows =
     let n : ℕ = l.graph.nodes in
     let both = length-append table sums in
@@ -104,19 +103,4 @@ scaled_least l common is count equal v w hv hw =
     record {
       some = (walk.0, walk.1, scaled walk.0 walk.1 ∙ ap (λ (x : ℕ). common * x) walk.2);
       each = λ xs other. let le : common * distance_of g v w ≤ common * length_of one_each v xs = mul-le-mul_left common (least.each xs other) in rw (scaled xs other) le;
-    }
-
-pub scaled_weights : (l : Lengths) (common : ℕ) (table : List ℕ) → IsGraph l.graph → length l.lengths ≡ length l.graph.edges → All (λ x. x ≡ common) l.lengths
-    → table ≡ flat_map (λ v. map (λ w. common * distance_of l.graph v w) (range_with_len 0 l.graph.nodes)) (range_with_len 0 l.graph.nodes) → AreWeights l table
-scaled_weights l common table is count equal are =
-    let n : ℕ = l.graph.nodes in
-    let f : ℕ → List ℕ = λ v. map (λ w. common * distance_of l.graph v w) (range_with_len 0 n) in
-    let long : (i : ℕ) → length (f i) ≡ n = λ i. length-map-range_with_len (λ w. common * distance_of l.graph i w) 0 n in
-    record {
-      count = rw are (length_at f n 0 n long);
-      least = λ v w hv hw.
-          let e : 0 + v ≡ v = omega arith in
-          let row = at_row f n 0 n v w 0 long hv hw in
-          let entry : slice_index table (v * n + w) ≡ common * distance_of l.graph v w = rw are (row ∙ rw e (get_or-map-range_with_len (λ w. common * distance_of l.graph v w) 0 n w w 0 hw (omega arith))) in
-          rw entry (scaled_least l common is count equal v w hv hw);
     }

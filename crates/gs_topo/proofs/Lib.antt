@@ -3,6 +3,8 @@ pub mod Walks
 pub mod Weighing
 pub mod Relaxing
 pub mod Searching
+pub mod Levelling
+pub mod Settling
 pub mod Distances
 pub mod Flagging
 pub mod Building

@@ -1,4 +1,4 @@
-use Rattle.std.proofs.Common.{◌≡◌, ℕ, ◌+◌, ◌-◌, ◌<◌, ◌≤◌, ◌⊎◌, inl, inr, arith, ap, sym, refl, ◌∙◌, List, [], ◌∷◌, map, cond, Bool, true, false, All, filter}
+use Rattle.std.proofs.Common.{◌≡◌, ℕ, ◌+◌, ◌-◌, ◌<◌, ◌≤◌, ◌⊎◌, inl, inr, arith, ap, sym, refl, ◌∙◌, List, [], ◌∷◌, length, map, cond, Bool, true, false, All, filter}
 use Rattle.std.specs.List.{Contains, range_with_len, list_any}
 use Rattle.std.proofs.lemmas.List.Elements.{Contains-append_left, Contains-append_right, Contains-append_cases, Contains-push, Contains-push_cases}
 use Rattle.std.proofs.lemmas.List.FromFn.{length-range_with_len, get_or-range_with_len}
@@ -12,6 +12,10 @@ none y h = omega (arith, h.1)
 
 pub only : {X : Type 0} (x y : X) → Contains (x ∷ []) y → x ≡ y
 only x y h = elim (Contains-push_cases [] x y h) [ inl before ↦ absurd (none y before) | inr same ↦ same ]
+
+pub no_members : {X : Type 0} (xs : List X) → length xs ≤ 0 → xs ≡ []
+no_members [] h = refl
+no_members (x ∷ xs) h = absurd (omega (arith, h))
 
 pub head_member : {X : Type 0} (x : X) (xs : List X) → Contains (x ∷ xs) x
 head_member x xs = Contains-append_left (x ∷ []) xs x (Contains-push [] x)

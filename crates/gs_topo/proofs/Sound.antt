@@ -15,7 +15,7 @@ use Rattle.gs_topo.specs.declared.steps.Step.{Step}
 use Rattle.gs_topo.specs.Faults.{edge_fault, edges_fault, split_fault, fault_of}
 use Rattle.gs_topo.specs.Graph.{Graph, IsBefore, joins, joined, adjacent, Adjacent, neighbours_of, pairs_below, graph_of}
 use Rattle.gs_topo.specs.Kept.{HasFlags, flag_at}
-use Rattle.gs_topo.specs.Search.{AreSteps, AreSums, AreInside, steps_over, far}
+use Rattle.gs_topo.specs.Search.{AreBelow, AreSteps, AreSums, AreInside, steps_over, far_level}
 use Rattle.gs_topo.specs.Walks.{IsWalk, IsGraph, IsSplitAt, one_each, reaches}
 use Rattle.gs_topo.proofs.Members.{Contains-map, member-from_list_any, range_below}
 use Rattle.gs_topo.proofs.Walks.{walk_append, turned, below_walks}
@@ -73,16 +73,14 @@ lists_are n given flags has sound =
     (All-weaker (λ x. (0 ≤ x) × (x < 0 + n)) (λ w. flag_at flags n v w ≡ adjacent (graph_of n given) v w)
     (λ w h. let hw : w < n = omega (arith, h) in has.each v w hv hw ∙ sym (adjacent_is_joined n given (plain n given sound) v w hv hw)) (range_with_len 0 n) (range_below 0 n)))
 
-pub steps_are : (g : Graph) (lists : List (List ℕ)) (all : List (List Step)) → lists ≡ map (neighbours_of g) (range_with_len 0 g.nodes) → all ≡ map (steps_over (λ _. 1)) lists → AreSteps g.nodes (adjacent g) one_each all
-steps_are g lists all are steps =
+-- each neighbour is a node
+pub lists_below : (g : Graph) (lists : List (List ℕ)) → lists ≡ map (neighbours_of g) (range_with_len 0 g.nodes) → AreBelow lists
+lists_below g lists are u d hu =
     let count : length lists ≡ g.nodes = rw are (length-map-range_with_len (neighbours_of g) 0 g.nodes) in
-    record {
-      count = rw steps (length-map lists (steps_over (λ _. 1)) ∙ count);
-      each = λ u hu.
-          let inside : u < length lists = rw count hu in
-          let list : get_or lists u [] ≡ neighbours_of g u = rw are (get_or-map-range_with_len (neighbours_of g) 0 g.nodes u u [] hu (omega arith)) in
-          rw steps (get_or-map (steps_over (λ _. 1)) lists u [] [] inside ∙ ap (steps_over (λ _. 1)) list);
-    }
+    let inside : u < g.nodes = rw count at hu in
+    let list : get_or lists u d ≡ neighbours_of g u = rw are (get_or-map-range_with_len (neighbours_of g) 0 g.nodes u u d inside (omega arith)) in
+    rw (list, count) (All-weaker (λ x. (0 ≤ x) × (x < 0 + g.nodes)) (λ x. x < g.nodes) (λ x h. omega (arith, h)) (neighbours_of g u)
+    (All-filter (adjacent g u) (λ x. (0 ≤ x) × (x < 0 + g.nodes)) (range_with_len 0 g.nodes) (range_below 0 g.nodes)))
 
 pub inside_of : (n : ℕ) (adj : ℕ → ℕ → Bool) (k : ℕ → ℕ → ℕ) (all : List (List Step)) → AreSteps n adj k all → All (AreInside (length all)) all
 inside_of n adj k all are u d hu =
@@ -91,28 +89,28 @@ inside_of n adj k all are u d hu =
     rw (list, are.count) (All-weaker (λ (s : Step). IsTrue (adj u s.to) × (s.to < n) × (s.length ≡ k u s.to)) (λ s. s.to < n) (λ s h. h.1) (steps_over (k u) (filter (adj u) (range_with_len 0 n))) (each_step n adj k u))
 
 -- what node 0 reaches, by the sums of a search from it
-levels_of : (g : Graph) (sums : List ℕ) → AreSums g.nodes (adjacent g) one_each 0 sums → IsLevelled g 0 (λ x. slice_index sums x)
+levels_of : (g : Graph) (sums : List ℕ) → AreSums g.nodes (adjacent g) one_each far_level 0 sums → IsLevelled g 0 (λ x. slice_index sums x)
 levels_of g sums s = record { start = s.start; near = s.near }
 
-pub reached : (g : Graph) (sums : List ℕ) (v : ℕ) → AreSums g.nodes (adjacent g) one_each 0 sums → 1 ≤ g.nodes → v < g.nodes → slice_index sums v ≢ far → reaches g 0 v ≡ true
+pub reached : (g : Graph) (sums : List ℕ) (v : ℕ) → AreSums g.nodes (adjacent g) one_each far_level 0 sums → 1 ≤ g.nodes → v < g.nodes → slice_index sums v ≢ far_level → reaches g 0 v ≡ true
 reached g sums v s some hv other =
     let small = s.small v in
     let walk = s.known v hv (omega (arith, small, other)) in
     is_reached g 0 v (λ x. slice_index sums x) (levels_of g sums s) (omega arith) walk.0 walk.1 walk.2
 
-pub not_reached : (g : Graph) (sums : List ℕ) (v : ℕ) → AreSums g.nodes (adjacent g) one_each 0 sums → 1 ≤ g.nodes → g.nodes ≤ 512 → slice_index sums v ≡ far → reaches g 0 v ≡ false
+pub not_reached : (g : Graph) (sums : List ℕ) (v : ℕ) → AreSums g.nodes (adjacent g) one_each far_level 0 sums → 1 ≤ g.nodes → g.nodes ≤ 512 → slice_index sums v ≡ far_level → reaches g 0 v ≡ false
 not_reached g sums v s some few far_off = is_not_reached g 0 v (λ xs walk.
     let le = below_walks (Adjacent g) g.nodes one_each (λ x. slice_index sums x) s.near 0 v xs (omega arith) walk in
     omega (arith, le, s.start, far_off, few))
 
-pub split_at : (g : Graph) (sums : List ℕ) (v : ℕ) → AreSums g.nodes (adjacent g) one_each 0 sums → 1 ≤ g.nodes → g.nodes ≤ 512 → v < g.nodes → slice_index sums v ≡ far
-    → ((u : ℕ) → u < v → slice_index sums u ≢ far) → split_fault g ≡ Some (Split v)
+pub split_at : (g : Graph) (sums : List ℕ) (v : ℕ) → AreSums g.nodes (adjacent g) one_each far_level 0 sums → 1 ≤ g.nodes → g.nodes ≤ 512 → v < g.nodes → slice_index sums v ≡ far_level
+    → ((u : ℕ) → u < v → slice_index sums u ≢ far_level) → split_fault g ≡ Some (Split v)
 split_at g sums v s some few hv far_off before =
     ap (option_map Split) (least_from_is (λ u. not (reaches g 0 u)) 0 g.nodes v (omega arith) (omega arith) (rw (not_reached g sums v s some few far_off) refl)
     (λ u low less. rw (reached g sums u s some (omega arith) (before u less)) refl))
 
-pub is_split : (g : Graph) (sums : List ℕ) (v : ℕ) → AreSums g.nodes (adjacent g) one_each 0 sums → 1 ≤ g.nodes → g.nodes ≤ 512 → v < g.nodes → slice_index sums v ≡ far
-    → ((u : ℕ) → u < v → slice_index sums u ≢ far) → IsSplitAt g v
+pub is_split : (g : Graph) (sums : List ℕ) (v : ℕ) → AreSums g.nodes (adjacent g) one_each far_level 0 sums → 1 ≤ g.nodes → g.nodes ≤ 512 → v < g.nodes → slice_index sums v ≡ far_level
+    → ((u : ℕ) → u < v → slice_index sums u ≢ far_level) → IsSplitAt g v
 is_split g sums v s some few hv far_off before = record {
   node = hv;
   apart = λ xs walk.
@@ -125,11 +123,11 @@ is_split g sums v s some few hv far_off before = record {
       (walk.0, walk.1);
 }
 
-pub no_split : (g : Graph) (sums : List ℕ) → AreSums g.nodes (adjacent g) one_each 0 sums → 1 ≤ g.nodes → ((u : ℕ) → u < g.nodes → slice_index sums u ≢ far) → split_fault g ≡ None
+pub no_split : (g : Graph) (sums : List ℕ) → AreSums g.nodes (adjacent g) one_each far_level 0 sums → 1 ≤ g.nodes → ((u : ℕ) → u < g.nodes → slice_index sums u ≢ far_level) → split_fault g ≡ None
 no_split g sums s some all =
     ap (option_map Split) (least_from_none (λ u. not (reaches g 0 u)) 0 g.nodes (λ u low less. let hu : u < g.nodes = omega (arith, less) in rw (reached g sums u s some hu (all u hu)) refl))
 
-pub connected : (g : Graph) (sums : List ℕ) → AreSums g.nodes (adjacent g) one_each 0 sums → 1 ≤ g.nodes → ((u : ℕ) → u < g.nodes → slice_index sums u ≢ far) → IsConnected g
+pub connected : (g : Graph) (sums : List ℕ) → AreSums g.nodes (adjacent g) one_each far_level 0 sums → 1 ≤ g.nodes → ((u : ℕ) → u < g.nodes → slice_index sums u ≢ far_level) → IsConnected g
 connected g sums s some all v w hv hw =
     let from : (x : ℕ) → x < g.nodes → (xs : List ℕ) × IsWalk (Adjacent g) g.nodes 0 xs x = λ x hx.
     let small = s.small x in let other = all x hx in let walk = s.known x hx (omega (arith, small, other)) in (walk.0, walk.1) in
@@ -206,26 +204,22 @@ fault_is n given some few many =
     let c : nat_lt 4096 (length given) ≡ false = le-ltb 4096 (length given) many in
     rw (a, b, c) refl
 
-pub all_steps : (n : ℕ) (given : List (ℕ × ℕ)) (flags : List Bool) (lists : List (List ℕ)) (all : List (List Step)) → HasFlags n (joined given) flags → edges_fault n [] 0 given ≡ None
-    → lists ≡ map (λ v. filter (flag_at flags n v) (range_with_len 0 n)) (range_with_len 0 n) → all ≡ map (steps_over (λ _. 1)) lists → AreSteps n (adjacent (graph_of n given)) one_each all
-all_steps n given flags lists all has sound are steps = steps_are (graph_of n given) lists all (are ∙ lists_are n given flags has sound) steps
-
 -- what is known of a list of edges after the search from node 0
 pub record IsSearched (n : ℕ) (given : List (ℕ × ℕ)) (sums : List ℕ) : Type 0 where
   pub some : 1 ≤ n
   pub few : n ≤ 512
   pub many : length given ≤ 4096
   pub sound : edges_fault n [] 0 given ≡ None
-  pub found : AreSums n (adjacent (graph_of n given)) one_each 0 sums
+  pub found : AreSums n (adjacent (graph_of n given)) one_each far_level 0 sums
 
-pub split_found : (n : ℕ) (given : List (ℕ × ℕ)) (sums : List ℕ) (v : ℕ) → IsSearched n given sums → v < length sums → slice_index sums v ≡ far → ((u : ℕ) → u < v → slice_index sums u ≢ far)
+pub split_found : (n : ℕ) (given : List (ℕ × ℕ)) (sums : List ℕ) (v : ℕ) → IsSearched n given sums → v < length sums → slice_index sums v ≡ far_level → ((u : ℕ) → u < v → slice_index sums u ≢ far_level)
     → fault_of n given ≡ Some (Split v)
 split_found n given sums v s inside far_off before =
     let g = graph_of n given in
     let hv : v < n = rw s.found.count at inside in
     fault_is n given s.some s.few s.many ∙ rw s.sound (split_at g sums v s.found s.some s.few hv far_off before)
 
-pub split_is : (n : ℕ) (given : List (ℕ × ℕ)) (sums : List ℕ) (v : ℕ) → IsSearched n given sums → v < length sums → slice_index sums v ≡ far → ((u : ℕ) → u < v → slice_index sums u ≢ far)
+pub split_is : (n : ℕ) (given : List (ℕ × ℕ)) (sums : List ℕ) (v : ℕ) → IsSearched n given sums → v < length sums → slice_index sums v ≡ far_level → ((u : ℕ) → u < v → slice_index sums u ≢ far_level)
     → IsSplitAt (graph_of n given) v
 split_is n given sums v s inside far_off before = is_split (graph_of n given) sums v s.found s.some s.few (rw s.found.count at inside) far_off before
 
@@ -248,8 +242,8 @@ no_edges_split n before i (e ∷ es) v h = elim (some_of (edge_fault n before i 
   | inr later ↦ no_edges_split n (before ++ e ∷ []) (i + 1) es v later
 ]
 
-pub none_found : (n : ℕ) (given : List (ℕ × ℕ)) (sums : List ℕ) → IsSearched n given sums → ((u : ℕ) → u < length sums → slice_index sums u ≢ far) → (fault_of n given ≡ None) × IsGraph (graph_of n given)
+pub none_found : (n : ℕ) (given : List (ℕ × ℕ)) (sums : List ℕ) → IsSearched n given sums → ((u : ℕ) → u < length sums → slice_index sums u ≢ far_level) → (fault_of n given ≡ None) × IsGraph (graph_of n given)
 none_found n given sums s all =
     let g = graph_of n given in
-    let each : (u : ℕ) → u < n → slice_index sums u ≢ far = λ u hu. all u (rw s.found.count hu) in
+    let each : (u : ℕ) → u < n → slice_index sums u ≢ far_level = λ u hu. all u (rw s.found.count hu) in
     (fault_is n given s.some s.few s.many ∙ rw s.sound (no_split g sums s.found s.some each), is_graph n given s.some s.few s.many (connected g sums s.found s.some each))

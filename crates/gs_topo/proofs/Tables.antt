@@ -1,24 +1,24 @@
-use Rattle.std.proofs.Common.{◌≡◌, ℕ, zero, suc, ◌+◌, ◌*◌, max, fold, length-append, ◌<◌, ◌≤◌, ◌^◌, arith, ap, ◌∙◌, List, [], ◌∷◌, length, map, Bool, All, slice_index, get_or, get_or-append-add}
+use Rattle.std.proofs.Common.{◌≡◌, ℕ, zero, suc, ◌+◌, ◌*◌, max, fold, length-append, ◌<◌, ◌≤◌, arith, ap, ◌∙◌, List, [], ◌∷◌, length, map, Bool, slice_index, get_or, get_or-append-add}
 use Rattle.std.specs.List.{flat_map, range_with_len}
-use Rattle.std.proofs.lemmas.List.{get_or_append_left, get_or_default}
+use Rattle.std.proofs.lemmas.List.{get_or_append_left}
 use Rattle.std.proofs.Math.Nat.{suc-mul}
 use Rattle.std.proofs.lemmas.Nat.{mul-add-lt}
 use Rattle.std.proofs.lemmas.List.FromFn.{fill_by_all, length-map-range_with_len, get_or-map-range_with_len}
 use Rattle.gs_topo.specs.Graph.{Graph, adjacent, Adjacent, neighbours_of}
 use Rattle.gs_topo.specs.Walks.{IsGraph, one_each, distance_of, distances_of, diameter_of}
-use Rattle.gs_topo.specs.Search.{AreSteps, AreSums, Searched}
+use Rattle.gs_topo.specs.Search.{AreLevels, AreSteps, AreSums, Searched, far_level, far_sum}
 use Rattle.gs_topo.specs.declared.steps.Step.{Step}
 use Rattle.gs_topo.proofs.Walks.{below_walks}
 use Rattle.gs_topo.proofs.Distances.{is_least, is_below}
 
 -- What a search finds is the distances, where walks lead everywhere.
 
-pub sums_of : (all : List (List Step)) (n source : ℕ) (adj : ℕ → ℕ → Bool) (k : ℕ → ℕ → ℕ) (sums : List ℕ) → AreSteps n adj k all → Searched all source sums → AreSums n adj k source sums
+pub sums_of : (all : List (List Step)) (n source : ℕ) (adj : ℕ → ℕ → Bool) (k : ℕ → ℕ → ℕ) (sums : List ℕ) → AreSteps n adj k all → Searched all source sums → AreSums n adj k far_sum source sums
 sums_of all n source adj k sums steps searched =
-    let s : AreSteps n adj k all → AreSums n adj k source sums = rw steps.count at (searched adj k) in
+    let s : AreSteps n adj k all → AreSums n adj k far_sum source sums = rw steps.count at (searched adj k) in
     s steps
 
-pub sum_is_distance : (g : Graph) (source w : ℕ) (sums : List ℕ) → IsGraph g → AreSums g.nodes (adjacent g) one_each source sums → source < g.nodes → w < g.nodes
+pub sum_is_distance : (g : Graph) (source w : ℕ) (sums : List ℕ) → IsGraph g → AreSums g.nodes (adjacent g) one_each far_level source sums → source < g.nodes → w < g.nodes
     → slice_index sums w ≡ distance_of g source w
 sum_is_distance g source w sums is s hs hw =
     let least = is_least g is.connected source w hs hw in
@@ -29,17 +29,11 @@ sum_is_distance g source w sums is s hs hw =
     let le = least.each found.0 found.1 in
     omega (arith, most, walk.2, s.start, le, found.2)
 
-pub row_is : (g : Graph) (all : List (List Step)) (source : ℕ) (sums : List ℕ) → IsGraph g → AreSteps g.nodes (adjacent g) one_each all → source < g.nodes → Searched all source sums
-    → (sums ≡ map (distance_of g source) (range_with_len 0 g.nodes)) × All (λ steps. steps < 2 ^ 16) sums
-row_is g all source sums is steps hs searched =
-    let s = sums_of all g.nodes source (adjacent g) one_each sums steps searched in (
-      fill_by_all (distance_of g source) sums g.nodes 0 s.count (λ w hw. sum_is_distance g source w sums is s hs hw),
-      λ w d hw. (let inside : w < g.nodes = rw s.count at hw in
-          let same : get_or sums w d ≡ slice_index sums w = get_or_default sums w d 0 hw in
-          let e = sum_is_distance g source w sums is s hs inside in
-          let below = is_below g is.connected source w hs inside in
-          rw same (omega (arith, e, below, is.few))),
-    )
+pub row_is : (g : Graph) (lists : List (List ℕ)) (source : ℕ) (levels : List ℕ) → IsGraph g → lists ≡ map (neighbours_of g) (range_with_len 0 g.nodes) → source < g.nodes
+    → AreLevels lists source levels → levels ≡ map (distance_of g source) (range_with_len 0 g.nodes)
+row_is g lists source levels is are hs found =
+    let s = found g are in
+    fill_by_all (distance_of g source) levels g.nodes 0 s.count (λ w hw. sum_is_distance g source w levels is s hs hw)
 
 -- an entry of a table of rows of n
 pub at_row : (f : ℕ → List ℕ) (n a m v w d : ℕ) → ((i : ℕ) → length (f i) ≡ n) → v < m → w < n → get_or (flat_map f (range_with_len a m)) (v * n + w) d ≡ get_or (f (a + v)) w d

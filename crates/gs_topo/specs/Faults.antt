@@ -6,6 +6,8 @@ use Rattle.gs_topo.specs.declared.fault.TopoFault.TheVariants.{Count, Edges, Nod
 use Rattle.gs_topo.specs.Graph.{Graph, graph_of, joined}
 use Rattle.gs_topo.specs.Walks.{least_from, reaches}
 
+-- What is wrong with a list of edges over some nodes: the first fault.
+
 -- what is wrong with the edge of number i, where `before` are the edges given before it
 abbrev pub edge_fault : ℕ → List (ℕ × ℕ) → ℕ → ℕ × ℕ → Option TopoFault
 edge_fault n before i e =

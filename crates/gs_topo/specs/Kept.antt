@@ -1,9 +1,7 @@
 use Rattle.std.specs.Prelude.{◌≡◌, ℕ, ◌*◌, ◌+◌, ◌<◌, Bool, false, List, length, map, slice_index_or}
 use Rattle.std.specs.List.{range_with_len}
-use Rattle.gs_topo.specs.Graph.{Graph, adjacent, neighbours_of}
-use Rattle.gs_topo.specs.Walks.{IsGraph, distances_of, diameter_of, one_each}
-use Rattle.gs_topo.specs.Search.{AreSteps}
-use Rattle.gs_topo.specs.declared.steps.Step.{Step}
+use Rattle.gs_topo.specs.Graph.{Graph, neighbours_of}
+use Rattle.gs_topo.specs.Walks.{IsGraph, distances_of, diameter_of}
 use Rattle.gs_topo.specs.declared.lists.Nodes.{Nodes}
 
 -- How a topology is kept: for its private functions alone.
@@ -24,6 +22,6 @@ pub record HasFlags (n : ℕ) (test : ℕ → ℕ → Bool) (flags : List Bool) 
   pub count : length flags ≡ n * n
   pub each : (v w : ℕ) → v < n → w < n → flag_at flags n v w ≡ test v w
 
--- A table, row by row, of the distances of any graph whose steps of length 1 these are, if walks lead everywhere in it.
-abbrev pub IsTableOf : List (List Step) → List ℕ → Type 0
-IsTableOf all table = (g : Graph) → AreSteps g.nodes (adjacent g) one_each all → IsGraph g → table ≡ distances_of g
+-- a table, row by row, of the distances of whatever graph these are the neighbours of, if walks lead everywhere in it
+abbrev pub IsTableOf : List (List ℕ) → List ℕ → Type 0
+IsTableOf lists table = (g : Graph) → lists ≡ map (neighbours_of g) (range_with_len 0 g.nodes) → IsGraph g → table ≡ distances_of g

@@ -3,6 +3,8 @@ use Rattle.gs_topo.specs.Graph.{Graph}
 use Rattle.gs_topo.specs.Walks.{IsLeast, IsGraph, distance_of}
 use Rattle.gs_topo.specs.Weights.{Weighs}
 
+-- The laws of least sums over walks, and of distances.
+
 -- steps go both ways at one length, and the weight of each pair is the least sum over its walks
 pub record AreLeastSums (n : ℕ) (adj : ℕ → ℕ → Bool) (k weight : ℕ → ℕ → ℕ) : Type 0 where
   pub both_ways : (v w : ℕ) → IsTrue (adj v w) → IsTrue (adj w v)

@@ -11,4 +11,4 @@ why_of (fault.Node i) = codes "node " ++ decimal i
 why_of (fault.Loop i) = codes "loop " ++ decimal i
 why_of (fault.Double i) = codes "double " ++ decimal i
 why_of (fault.Split v) = codes "split " ++ decimal v
-why_of fault.OutOfMemory = codes ""
+why_of fault.OutOfMemory = codes "out of memory"

@@ -1,17 +1,15 @@
 ghost use Rattle.std.specs.Prelude.{◌≡◌, ◌+◌, ◌-◌, ◌*◌, ◌<◌, ◌≤◌, ℕ, IfOk, if◌then◌else◌};
-ghost use Rattle.std.specs.Prelude.{[], ◌∷◌, ◌++◌, filter, length, map, vec_len};
+ghost use Rattle.std.specs.Prelude.{[], ◌∷◌, ◌++◌, filter, length, map};
 ghost use Rattle.std.specs.List.{range_with_len};
 ghost use Rattle.gs_topo.specs.Graph.{pairs_below};
 ghost use Rattle.gs_topo.specs.Kept.{flag_at};
-ghost use Rattle.gs_topo.specs.Search.{steps_over};
 
 use crate::flags::is_flagged;
 use crate::lists::Nodes;
-use crate::steps::{Step, Steps};
 use std::alloc::{AllocError, Global};
 
 /// Adds an item, if it is wanted.
-fn push_if<T: Copy>(list: &mut Vec<T>, wanted: bool, item: T) -> Result<(), AllocError>
+pub(crate) fn push_if<T: Copy>(list: &mut Vec<T>, wanted: bool, item: T) -> Result<(), AllocError>
     ensures { IfOk result (λ _. list.new.items ≡ list.old.items ++ (if wanted then item ∷ [] else [])) }
 {
     if wanted {
@@ -77,26 +75,4 @@ pub(crate) fn neighbour_lists(
         lists.push(neighbours(alloc, n, flags, v)?)?;
     }
     Ok(lists)
-}
-
-/// Steps of length 1 to these nodes.
-fn unit_steps_to(alloc: Global, nodes: &[u32]) -> Result<Steps, AllocError>
-    ensures { IfOk result (λ steps. steps ≡ steps_over (λ _. 1) nodes.now) }
-{
-    let mut steps = Vec::new(alloc);
-    for to in nodes {
-        steps.push(Step { to: *to, length: 1 })?;
-    }
-    Ok(Steps::from_vec(steps))
-}
-
-/// Steps of length 1 to the neighbours of each node.
-pub(crate) fn unit_steps(alloc: Global, lists: &[Nodes]) -> Result<Vec<Steps>, AllocError>
-    ensures { IfOk result (λ all. all.items ≡ map (steps_over (λ _. 1)) lists.now) }
-{
-    let mut all = Vec::new(alloc);
-    for list in lists {
-        all.push(unit_steps_to(alloc, list.as_slice())?)?;
-    }
-    Ok(all)
 }

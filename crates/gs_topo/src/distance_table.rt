@@ -1,39 +1,21 @@
-ghost use Rattle.std.specs.Prelude.{◌≡◌, ◌+◌, ◌<◌, ◌≤◌, ◌^◌, ◌++◌, ℕ, All, IfOk, fold, length, max, vec_len};
-ghost use Rattle.std.specs.List.{range_with_len, flat_map};
-ghost use Rattle.gs_topo.specs.Search.{AreInside, Searched};
+ghost use Rattle.std.specs.Prelude.{◌≡◌, ◌≤◌, IfOk, fold, length, max};
+ghost use Rattle.gs_topo.specs.Search.{AreBelow};
 ghost use Rattle.gs_topo.specs.Kept.{IsTableOf};
 
-use crate::search::sums_from;
-use crate::steps::Steps;
+use crate::levels::levels_from;
+use crate::lists::Nodes;
 use std::alloc::{AllocError, Global};
 
-/// This number of steps, where it is one of a walk.
-fn narrow(steps: u128) -> u16
-    ensures { steps < 2 ^ 16 → result ≡ steps }
-{
-    u16::try_from(steps).unwrap_or(u16::MAX)
-}
-
-/// Adds a row to a table of distances.
-fn add_row(table: &mut Vec<u16>, row: &[u128]) -> Result<(), AllocError>
-    ensures { IfOk result (λ _. All (λ steps. steps < 2 ^ 16) row.now → table.new.items ≡ table.old.items ++ row.now) }
-{
-    for steps in row {
-        table.push(narrow(*steps))?;
-    }
-    Ok(())
-}
-
-/// The least numbers of steps between all pairs of nodes, row by row.
-pub(crate) fn table_of(alloc: Global, all: &[Steps]) -> Result<Vec<u16>, AllocError>
-    requires few { length all.now ≤ 512 }
-    requires inside { All (AreInside (length all.now)) all.now }
-    ensures { IfOk result (λ table. IsTableOf all.now table.items) }
+/// The distances of all pairs of nodes, row by row.
+pub(crate) fn table_of(alloc: Global, lists: &[Nodes]) -> Result<Vec<u16>, AllocError>
+    requires few { length lists.now ≤ 512 }
+    requires below { AreBelow lists.now }
+    ensures { IfOk result (λ table. IsTableOf lists.now table.items) }
 {
     let mut table = Vec::new(alloc);
-    for source in 0..all.len() {
-        let row = sums_from(alloc, all, source as u32)?;
-        add_row(&mut table, &row)?;
+    for source in 0..lists.len() {
+        let row = levels_from(alloc, lists, source as u32)?;
+        table.extend_from_slice(&row)?;
     }
     Ok(table)
 }

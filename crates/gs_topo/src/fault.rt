@@ -38,7 +38,7 @@ impl fmt::Display for TopoFault {
             TopoFault::Loop(i) => write!(f, "loop {i}"),
             TopoFault::Double(i) => write!(f, "double {i}"),
             TopoFault::Split(v) => write!(f, "split {v}"),
-            TopoFault::OutOfMemory => f.write_str(""),
+            TopoFault::OutOfMemory => f.write_str("out of memory"),
         }
     }
 }

@@ -12,6 +12,7 @@ mod distance_table;
 mod fault;
 mod flags;
 mod laws;
+mod levels;
 mod lists;
 mod search;
 mod steps;

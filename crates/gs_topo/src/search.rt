@@ -1,20 +1,19 @@
-ghost use Rattle.std.specs.Prelude.{◌≡◌, ◌≢◌, ◌+◌, ◌*◌, ◌<◌, ◌≤◌, ◌^◌, ℕ, IfNone, IfOk, IfSome, IsOk};
-ghost use Rattle.std.specs.Prelude.{All, List, length, slice_index, sum, vec_len};
-ghost use Rattle.std.specs.VecDeque.{deque_len};
-ghost use Rattle.gs_topo.specs.Search.{AreInside, Searched, all_tried, far};
+ghost use Rattle.std.specs.Prelude.{◌≡◌, ◌+◌, ◌*◌, ◌<◌, ◌≤◌, ◌^◌, ℕ, IfOk};
+ghost use Rattle.std.specs.Prelude.{All, List, length, slice_index, vec_len};
+ghost use Rattle.gs_topo.specs.Search.{AreInside, Searched, all_tried, far_sum};
 
+use crate::build::push_if;
 use crate::steps::{Step, Steps};
 use std::alloc::{AllocError, Global};
-use std::collections::VecDeque;
 
 /// The sum of a node that was not reached yet, above that of any walk of the search.
-pub(crate) const FAR: u128 = 1 << 96;
+const FAR: u128 = 1 << 96;
 
-/// Tries the steps of a node of this sum: where one makes a sum less, that is the new sum, and the
-/// node that it leads to is pending.
-pub(crate) fn relax(
+/// Tries the steps of a node of this sum: where one makes a sum less, that is the new sum. A node
+/// that had none becomes pending.
+fn relax(
     sums: &mut Vec<u128>,
-    pending: &mut VecDeque<u32>,
+    pending: &mut Vec<u32>,
     here: u128,
     steps: &[Step],
 ) -> Result<(), AllocError>
@@ -25,18 +24,37 @@ pub(crate) fn relax(
 {
     for step in steps {
         let sum = here + u128::from(step.length);
-        let to = step.to as usize;
-        if sum < sums[to] {
-            sums[to] = sum;
-            pending.push_back(step.to)?;
+        let before = sums[step.to as usize];
+        if sum < before {
+            sums[step.to as usize] = sum;
+            push_if(pending, before == FAR, step.to)?;
         }
     }
     Ok(())
 }
 
-/// The least sums of the lengths of walks from a node, or `FAR`. A pending node is one whose sum
-/// became less after its steps were tried, so that nothing is pending only where no step makes a
-/// sum less (label correction, after Ford, Moore and Bellman).
+/// The place of a pending node of the least sum.
+fn least_place(sums: &[u128], pending: &[u32]) -> usize
+    requires some { 0 < length pending.now }
+    requires inside { All (λ x. x < length sums.now) pending.now }
+    ensures place { result < length pending.now }
+    ensures least { All (λ x. slice_index sums.now (slice_index pending.now result) ≤ slice_index sums.now x) pending.now }
+{
+    let mut best = 0;
+    let mut least = sums[pending[0] as usize];
+    for place in 1..pending.len() {
+        let sum = sums[pending[place] as usize];
+        if sum < least {
+            best = place;
+            least = sum;
+        }
+    }
+    best
+}
+
+/// The least sums of the lengths of walks from a node, or `FAR`. The steps of a pending node of the
+/// least sum are tried next (after Dijkstra), so that no later sum is less than its own: the steps
+/// of each node are tried once.
 pub(crate) fn sums_from(alloc: Global, all: &[Steps], source: u32) -> Result<Vec<u128>, AllocError>
     requires source { source < length all.now }
     requires inside { All (AreInside (length all.now)) all.now }
@@ -44,26 +62,13 @@ pub(crate) fn sums_from(alloc: Global, all: &[Steps], source: u32) -> Result<Vec
 {
     let mut sums = vec![in alloc; FAR; all.len()]?;
     sums[source as usize] = 0;
-    let mut pending = VecDeque::new(alloc);
-    pending.push_back(source)?;
-    while let Some(node) = pending.pop_front() {
-        let here = sums[node as usize];
-        relax(&mut sums, &mut pending, here, all[node as usize].as_slice())?;
+    let mut pending = Vec::new(alloc);
+    pending.push(source)?;
+    while !pending.is_empty() {
+        let place = least_place(&sums, &pending);
+        let node = pending.swap_remove(place) as usize;
+        let here = sums[node];
+        relax(&mut sums, &mut pending, here, all[node].as_slice())?;
     }
     Ok(sums)
-}
-
-/// The first place of `FAR`.
-pub(crate) fn first_far(sums: &[u128]) -> Option<u32>
-    requires { length sums.now ≤ 512 }
-    ensures some { IfSome result (λ v. (v < length sums.now) × (slice_index sums.now v ≡ far)
-        × ((u : ℕ) → u < v → slice_index sums.now u ≢ far)) }
-    ensures none { IfNone result ((u : ℕ) → u < length sums.now → slice_index sums.now u ≢ far) }
-{
-    for v in 0..sums.len() {
-        if sums[v] == FAR {
-            return Some(v as u32);
-        }
-    }
-    None
 }

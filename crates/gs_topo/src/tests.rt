@@ -44,7 +44,7 @@ fn each_fault_has_its_words(rt: HostRuntime) -> Result<(), AllocError> {
         (TopoFault::Loop(4095), "loop 4095"),
         (TopoFault::Double(4_294_967_295), "double 4294967295"),
         (TopoFault::Split(511), "split 511"),
-        (TopoFault::OutOfMemory, ""),
+        (TopoFault::OutOfMemory, "out of memory"),
     ] {
         assert_eq!(rt; fault.to_string(rt.alloc())?.as_str(), words);
     }
@@ -80,17 +80,17 @@ fn weights_take_the_shortest_way(rt: HostRuntime) -> Result<(), AllocError> {
     };
     assert!(rt; line.edges().len() == 2);
     let unequal = Weights::new(alloc, &line, &[122_529, 22_529])?;
-    assert_eq!(rt; unequal.weight(0, 2), 145_058);
+    assert_eq!(rt; unequal.weight(&line, 0, 2), 145_058);
     let equal = Weights::new(alloc, &line, &[7, 7])?;
-    assert_eq!(rt; equal.weight(2, 0), 14);
+    assert_eq!(rt; equal.weight(&line, 2, 0), 14);
     let triangle = match Topology::new(alloc, 3, &[(0, 1), (1, 2), (0, 2)]) {
         Ok(triangle) => triangle,
         Err(_) => panic!(rt; "no triangle"),
     };
     assert!(rt; triangle.edges().len() == 3);
     let detour = Weights::new(alloc, &triangle, &[3, 9, 4])?;
-    assert_eq!(rt; detour.weight(0, 2), 7);
-    assert_eq!(rt; detour.weight(0, 1), 3);
-    assert_eq!(rt; detour.weight(1, 1), 0);
+    assert_eq!(rt; detour.weight(&triangle, 0, 2), 7);
+    assert_eq!(rt; detour.weight(&triangle, 0, 1), 3);
+    assert_eq!(rt; detour.weight(&triangle, 1, 1), 0);
     Ok(())
 }

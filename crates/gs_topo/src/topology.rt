@@ -4,12 +4,12 @@ ghost use Rattle.gs_topo.specs.Faults.{fault_of};
 ghost use Rattle.gs_topo.specs.Graph.{Graph, IsBefore, Adjacent, adjacent, graph_of, joins, neighbours_of, number_of};
 ghost use Rattle.gs_topo.specs.Walks.{IsCloser, IsGraph, IsLeast, IsSplitAt, diameter_of, distance_of, one_each};
 
-use crate::build::{edge_list, neighbour_lists, unit_steps};
+use crate::build::{edge_list, neighbour_lists};
 use crate::distance_table::{greatest, table_of};
 use crate::fault::TopoFault;
 use crate::flags::flags_of;
+use crate::levels::{first_unreached, levels_from};
 use crate::lists::Nodes;
-use crate::search::{first_far, sums_from};
 use std::alloc::Global;
 use std::marker::Model;
 
@@ -66,12 +66,11 @@ impl Topology {
         let flags = flags_of(alloc, n, edges)?;
         let edges = edge_list(alloc, n, &flags)?;
         let lists = neighbour_lists(alloc, n, &flags)?;
-        let all = unit_steps(alloc, &lists)?;
-        let reached = sums_from(alloc, &all, 0)?;
-        if let Some(node) = first_far(&reached) {
+        let levels = levels_from(alloc, &lists, 0)?;
+        if let Some(node) = first_unreached(&levels) {
             return Err(TopoFault::Split(node));
         }
-        let table = table_of(alloc, &all)?;
+        let table = table_of(alloc, &lists)?;
         let diameter = greatest(&table);
         Ok(Topology {
             nodes: n,

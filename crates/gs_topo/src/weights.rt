@@ -1,16 +1,25 @@
-ghost use Rattle.std.specs.Prelude.{◌≡◌, ◌+◌, ◌*◌, ◌<◌, ◌++◌, ℕ, All, IfOk, IfSome, length, map, vec_len};
-ghost use Rattle.std.specs.List.{flat_map, range_with_len};
+ghost use Rattle.std.specs.Prelude.{◌≡◌, ◌<◌, All, IfOk, IfSome, length, map};
+ghost use Rattle.std.specs.List.{range_with_len};
 ghost use Rattle.gs_topo.specs.Graph.{Adjacent, Graph, neighbours_of};
-ghost use Rattle.gs_topo.specs.Walks.{IsGraph, IsLeast, distance_of};
+ghost use Rattle.gs_topo.specs.Walks.{IsLeast};
 ghost use Rattle.gs_topo.specs.Weights.{Lengths, length_between};
 ghost use Rattle.gs_topo.specs.Search.{steps_over};
-ghost use Rattle.gs_topo.specs.Weighted.{AreWeights};
+ghost use Rattle.gs_topo.specs.Weighted.{AreRows, AreWeights};
 
 use crate::search::sums_from;
 use crate::steps::{Step, Steps};
 use crate::topology::Topology;
 use std::alloc::{AllocError, Global};
 use std::marker::Model;
+
+/// How weights are kept.
+#[derive(Drop)]
+enum Table {
+    /// The length of all edges: a weight is so many times a distance.
+    Even(u64),
+    /// The weight of v and w at place v * nodes + w.
+    Each(Vec<u128>),
+}
 
 /// The weights of all pairs of nodes of a topology: the least sums of the lengths of edges over the
 /// walks between them.
@@ -20,8 +29,7 @@ pub struct Weights {
     // The edges and their lengths are kept for contracts, which see them: no call reads them.
     edges: Vec<(u32, u32)>,
     lengths: Vec<u64>,
-    /// The weight of v and w at place v * nodes + w.
-    table: Vec<u128>,
+    table: Table,
 }
 
 impl Model for Weights {
@@ -38,12 +46,12 @@ impl Model for Weights {
 
     ghost invariant = { λ a. AreWeights
         (record { graph = record { nodes = a.nodes; edges = a.edges.items }; lengths = a.lengths.items })
-        a.table.items };
+        a.table };
 }
 
 impl Weights {
     /// The weights for these lengths of the edges, in the order of the edges. Where all lengths are
-    /// equal no search is made.
+    /// equal no search is made, and no table.
     pub fn new(alloc: Global, topology: &Topology, lengths: &[u64]) -> Result<Weights, AllocError>
         requires { length lengths.now ≡ length topology.now.edges }
         ensures { IfOk result (λ weights. weights ≡ record { graph = topology.now; lengths = lengths.now }) }
@@ -57,12 +65,17 @@ impl Weights {
         })
     }
 
-    /// The least sum of the lengths of a walk from `v` to `w`.
-    pub fn weight(&self, v: u32, w: u32) -> u128
-        requires { (v < self.now.graph.nodes) × (w < self.now.graph.nodes) }
+    /// The least sum of the lengths of a walk from `v` to `w`, where `topology` is the one that these
+    /// weights were made for.
+    pub fn weight(&self, topology: &Topology, v: u32, w: u32) -> u128
+        requires topology { topology.now ≡ self.now.graph }
+        requires nodes { (v < self.now.graph.nodes) × (w < self.now.graph.nodes) }
         ensures { IsLeast (Adjacent self.now.graph) self.now.graph.nodes (length_between self.now) v w result }
     {
-        self.table[v as usize * self.nodes as usize + w as usize]
+        match &self.table {
+            Table::Even(common) => u128::from(*common) * u128::from(topology.distance(v, w)),
+            Table::Each(sums) => sums[v as usize * self.nodes as usize + w as usize],
+        }
     }
 }
 
@@ -77,41 +90,6 @@ fn common_length(lengths: &[u64]) -> Option<u64>
         }
     }
     Some(common)
-}
-
-/// Adds the weights from `v`, where all lengths are equal.
-fn add_scaled_row(
-    table: &mut Vec<u128>,
-    topology: &Topology,
-    common: u64,
-    v: u32,
-) -> Result<(), AllocError>
-    requires { v < topology.now.nodes }
-    ensures { IfOk result (λ _. table.new.items ≡ table.old.items
-        ++ map (λ w. common * distance_of topology.now v w) (range_with_len 0 topology.now.nodes)) }
-{
-    for w in 0..topology.nodes() {
-        table.push(u128::from(common) * u128::from(topology.distance(v, w)))?;
-    }
-    Ok(())
-}
-
-/// The weights where all lengths are equal.
-fn scaled_table(
-    alloc: Global,
-    topology: &Topology,
-    lengths: &[u64],
-    common: u64,
-) -> Result<Vec<u128>, AllocError>
-    requires count { length lengths.now ≡ length topology.now.edges }
-    requires equal { All (λ length. length ≡ common) lengths.now }
-    ensures { IfOk result (λ table. AreWeights (record { graph = topology.now; lengths = lengths.now }) table.items) }
-{
-    let mut table = Vec::new(alloc);
-    for v in 0..topology.nodes() {
-        add_scaled_row(&mut table, topology, common, v)?;
-    }
-    Ok(table)
 }
 
 /// The length of the edge between `v` and `w`, and 0 where there is none.
@@ -162,7 +140,8 @@ fn all_steps(alloc: Global, topology: &Topology, lengths: &[u64]) -> Result<Vec<
 /// The weights by a search from each node.
 fn least_table(alloc: Global, topology: &Topology, lengths: &[u64]) -> Result<Vec<u128>, AllocError>
     requires { length lengths.now ≡ length topology.now.edges }
-    ensures { IfOk result (λ table. AreWeights (record { graph = topology.now; lengths = lengths.now }) table.items) }
+    ensures { IfOk result (λ table. AreRows (record { graph = topology.now; lengths = lengths.now })
+        topology.now.nodes table.items) }
 {
     let all = all_steps(alloc, topology, lengths)?;
     let mut table = Vec::new(alloc);
@@ -173,17 +152,17 @@ fn least_table(alloc: Global, topology: &Topology, lengths: &[u64]) -> Result<Ve
     Ok(table)
 }
 
-/// The weights, without a search where all lengths are equal.
+/// How the weights for these lengths are kept.
 fn table_of_weights(
     alloc: Global,
     topology: &Topology,
     lengths: &[u64],
-) -> Result<Vec<u128>, AllocError>
+) -> Result<Table, AllocError>
     requires { length lengths.now ≡ length topology.now.edges }
-    ensures { IfOk result (λ table. AreWeights (record { graph = topology.now; lengths = lengths.now }) table.items) }
+    ensures { IfOk result (AreWeights (record { graph = topology.now; lengths = lengths.now })) }
 {
     match common_length(lengths) {
-        Some(common) => scaled_table(alloc, topology, lengths, common),
-        None => least_table(alloc, topology, lengths),
+        Some(common) => Ok(Table::Even(common)),
+        None => Ok(Table::Each(least_table(alloc, topology, lengths)?)),
     }
 }
