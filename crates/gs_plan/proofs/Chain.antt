@@ -45,5 +45,3 @@ lt_place p (x ∷ xs) = pick (p x) (lt_place p xs) where
 -- a place is found where some item passes
 pub place_found : {X : Type 0} (p : X → Bool) (xs : List X) → is_some (position p xs) ≡ list_any p xs
 place_found p xs = is_some_where (nat_lt (position_or_len p xs) (length xs)) (position_or_len p xs) ∙ lt_place p xs
-
-pub ruleset places = (place_found)

@@ -4,5 +4,8 @@ pub mod Chain
 pub mod Accepting
 pub mod Keeping
 pub mod Linking
+pub mod SpanTable
 pub mod Connecting
 pub mod Telling
+pub mod Sums
+pub mod Weights

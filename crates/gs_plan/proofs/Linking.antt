@@ -9,7 +9,7 @@ use Rattle.std.specs.Option.{option_map_or}
 use Rattle.std.proofs.lemmas.List.{get_or-map, length-map}
 use Rattle.std.proofs.lemmas.List.Elements.{All-contains}
 use Rattle.std.proofs.lemmas.List.Quantifiers.{position-Some}
-use Rattle.gs_topo.specs.Graph.{Graph, Adjacent, joins, number_of}
+use Rattle.gs_topo.specs.Graph.{Graph, Adjacent, adjacent, joins, number_of}
 use Rattle.gs_topo.specs.Walks.{IsLeast, IsWalk, length_of}
 use Rattle.gs_topo.specs.Weights.{length_between}
 use Rattle.gs_topo.proofs.Ascending.{joins-cases}
@@ -21,7 +21,7 @@ use Rattle.gs_plan.specs.declared.edge.EdgeText.{EdgeText}
 use Rattle.gs_plan.specs.Accepted.{IsAccepted, IsFine}
 use Rattle.gs_plan.specs.Edges.{edge_text, edge_texts, own_text, span_between, span_text}
 use Rattle.gs_plan.specs.Kept.{lengths_in}
-use Rattle.gs_plan.specs.Numbers.{kappa_between, kappa_in, numbers_in, numbers_of}
+use Rattle.gs_plan.specs.Numbers.{kappa_between, kappa_in, numbers_between, numbers_in, numbers_of}
 use Rattle.gs_plan.proofs.Chain.{place_found}
 
 either : (a b : Bool) → a || b ≡ b || a
@@ -38,12 +38,16 @@ same_span (s ∷ ss) v w = rw (either ((s.a == v) && (s.b == w)) ((s.a == w) && 
 pub same_text : (t : PlanText) (v w : ℕ) → edge_text t (v, w) ≡ edge_text t (w, v)
 same_text t v w = ap (λ o. option_map_or span_text o (own_text t)) (same_span t.spans v w)
 
+-- the span of an edge, by its two ends
+pub joined_span : (spans : List EdgeSpan) (e : ℕ × ℕ) (v w : ℕ) → joins e v w ≡ true → span_between spans e.0 e.1 ≡ span_between spans v w
+joined_span spans e v w h = elim (joins-cases e v w h) [
+  | inl there ↦ let a : e.0 ≡ v = there.0 in let b : e.1 ≡ w = there.1 in ap (λ x. span_between spans x e.1) a ∙ ap (λ x. span_between spans v x) b
+  | inr back ↦ let a : e.0 ≡ w = back.0 in let b : e.1 ≡ v = back.1 in ap (λ x. span_between spans x e.1) a ∙ ap (λ x. span_between spans w x) b ∙ same_span spans w v
+]
+
 -- what a plan says of an edge, by its two ends
 pub joined_text : (t : PlanText) (e : ℕ × ℕ) (v w : ℕ) → joins e v w ≡ true → edge_text t e ≡ edge_text t (v, w)
-joined_text t e v w h = elim (joins-cases e v w h) [
-  | inl there ↦ let a : e.0 ≡ v = there.0 in let b : e.1 ≡ w = there.1 in ap (λ x. edge_text t (x, e.1)) a ∙ ap (λ x. edge_text t (v, x)) b
-  | inr back ↦ let a : e.0 ≡ w = back.0 in let b : e.1 ≡ v = back.1 in ap (λ x. edge_text t (x, e.1)) a ∙ ap (λ x. edge_text t (w, x)) b ∙ same_text t w v
-]
+joined_text t e v w h = ap (λ o. option_map_or span_text o (own_text t)) (joined_span t.spans e v w h)
 
 -- each edge of an accepted plan is fine
 pub fine_at : (t : PlanText) (g : Graph) (e : ℕ × ℕ) → IsAccepted t g → Contains g.edges e → IsFine t (edge_text t e)
@@ -69,6 +73,18 @@ numbers_at t g v w e d found =
     let at = text_at t g v w e (own_text t) found in
     let inside : e < length (edge_texts t g) = at.0 in
     (rw (length-map (edge_texts t g) (numbers_in t)) inside, get_or-map (numbers_in t) (edge_texts t g) e (own_text t) d inside ∙ ap (numbers_in t) at.1)
+
+-- which are those between the two nodes
+pub numbers_found : (t : PlanText) (g : Graph) (v w e : ℕ) (d : EdgeNumbers) → number_of g v w ≡ Some e → Some (get_or (numbers_of t g) e d) ≡ numbers_between t g v w
+numbers_found t g v w e d found =
+    let near : adjacent g v w ≡ true = sym (place_found (λ x. joins x v w) g.edges) ∙ ap is_some found in
+    rw (near, (numbers_at t g v w e d found).1) refl
+
+-- and there are none where there is no edge
+pub no_numbers : (t : PlanText) (g : Graph) (v w : ℕ) → number_of g v w ≡ None → None ≡ numbers_between t g v w
+no_numbers t g v w none =
+    let far : adjacent g v w ≡ false = sym (place_found (λ x. joins x v w) g.edges) ∙ ap is_some none in
+    rw far refl
 
 -- neighbours have an edge
 pub has_number : (g : Graph) (v w : ℕ) → Adjacent g v w → (e : ℕ) × (number_of g v w ≡ Some e)

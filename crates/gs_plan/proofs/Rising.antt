@@ -2,7 +2,8 @@
 use Rattle.std.proofs.Common.{◌≡◌, ℕ, suc, ◌+◌, ◌*◌, ◌/◌, ◌%◌, ◌<◌, ◌≤◌, arith, refl}
 use Rattle.std.proofs.Math.Nat.{mul-le-mul_right, div-add-mod}
 use Rattle.std.specs.Int.{div_ceil}
-use Rattle.gs_plan.specs.Levels.{best_of, bound_at, lesser}
+use Rattle.gs_plan.specs.Levels.{best_of, lesser}
+use Rattle.gs_units.specs.Levels.{bound_at}
 
 -- a quotient rounded up is at most what was divided
 pub div_ceil-le : (x y : ℕ) → 1 ≤ y → div_ceil x y ≤ x

@@ -1,9 +1,13 @@
 -- What a plan tells a node is valid.
-use Rattle.std.proofs.Common.{◌≡◌, ◌≢◌, ℕ, ◌+◌, ◌-◌, ◌*◌, ◌/◌, ◌<◌, ◌≤◌, ◌^◌, arith, refl, ap, sym, subst, inl, inr, map, length, List, [], ◌∷◌, true, IsTrue, Option, Some, None, is_none, option_map, get_or, slice_index}
-use Rattle.std.specs.List.{range_with_len}
+use Rattle.std.proofs.Common.{◌≡◌, ◌≢◌, ℕ, ◌+◌, ◌-◌, ◌*◌, ◌/◌, ◌<◌, ◌≤◌, ◌^◌, ◌∙◌, arith, refl, ap, sym, subst, inl, inr, map, take, drop, length, List, [], ◌∷◌, ◌++◌, Bool, true, false, cond, IsTrue, Option, Some, None, is_none, option_map, get_or, slice_index}
+use Rattle.std.specs.List.{filter, range_with_len}
 use Rattle.std.specs.List.Sorted.{IsStrictlyIncreasing}
 use Rattle.std.proofs.Math.Nat.{div-mul-le_self, mul-add, mul-le-mul_left}
-use Rattle.std.proofs.lemmas.List.Elements.{All-contains, All-filter, All-map}
+use Rattle.std.proofs.lemmas.Bool.{false_from_ne_true}
+use Rattle.std.proofs.lemmas.List.{length-append, length-drop, length-map, length-take-le, take-append-drop}
+use Rattle.std.proofs.lemmas.List.Elements.{All-contains, All-filter, All-map, filter-append}
+use Rattle.std.proofs.lemmas.List.Filters.{length-filter_more}
+use Rattle.std.proofs.lemmas.List.Sums.{count_by-le-length, length-filter}
 use Rattle.std.proofs.lemmas.List.Kept.{IsStrictlyIncreasing-filter}
 use Rattle.std.proofs.lemmas.List.FromFn.{get_or-range_with_len, length-range_with_len}
 use Rattle.gs_units.specs.Accepted.{boosted}
@@ -107,6 +111,27 @@ range_ascends a n = λ k h.
 pub neighbours_ascend : (g : Graph) (v : ℕ) → IsStrictlyIncreasing (neighbours_of g v)
 neighbours_ascend g v = IsStrictlyIncreasing-filter (adjacent g v) (range_with_len 0 g.nodes) (range_ascends 0 g.nodes)
 
+-- a filter that leaves an element out gives fewer
+filter_fewer : (p : ℕ → Bool) (xs : List ℕ) (i : ℕ) → i < length xs → p (slice_index xs i) ≡ false → length (filter p xs) < length xs
+filter_fewer p xs i inside out =
+    let one : Bool → ℕ = λ b. cond b 1 0 in
+    let none : one (p (slice_index xs i)) ≡ 0 = ap one out in
+    let front = length-filter_more p xs i 0 inside in
+    let whole : filter p (take (i + 1) xs) ++ filter p (drop (i + 1) xs) ≡ filter p xs = sym (filter-append p (take (i + 1) xs) (drop (i + 1) xs)) ∙ ap (filter p) (take-append-drop (i + 1) xs) in
+    let sum : length (filter p (take (i + 1) xs)) + length (filter p (drop (i + 1) xs)) ≡ length (filter p xs) = sym (length-append _ _) ∙ ap length whole in
+    let few : (ys : List ℕ) → length (filter p ys) ≤ length ys = λ ys. rw (length-filter p ys) (count_by-le-length p ys) in
+    omega (arith, none, front, sum, few (take i xs), few (drop (i + 1) xs), length-take-le i xs (omega (arith, inside)), length-drop (i + 1) xs)
+
+-- so a node has fewer neighbours than there are nodes
+few_neighbours : (g : Graph) (v : ℕ) → v < g.nodes → (Adjacent g v v → ⊥) → length (neighbours_of g v) < g.nodes
+few_neighbours g v inside alone =
+    let count : length (range_with_len 0 g.nodes) ≡ g.nodes = length-range_with_len 0 g.nodes in
+    let at = get_or-range_with_len 0 g.nodes v 0 inside in
+    let here : slice_index (range_with_len 0 g.nodes) v ≡ v = omega (arith, at) in
+    let out : adjacent g v (slice_index (range_with_len 0 g.nodes) v) ≡ false = rw here (false_from_ne_true (adjacent g v v) alone) in
+    let fewer = filter_fewer (adjacent g v) (range_with_len 0 g.nodes) v (omega (arith, count, inside)) out in
+    omega (arith, fewer, count)
+
 -- the nodes of the links are the neighbours
 linked : (t : PlanText) (v : ℕ) (xs : List ℕ) → map (λ link. link.node) (map (link_in t v) xs) ≡ xs
 linked t v [] = refl
@@ -114,9 +139,9 @@ linked t v (x ∷ xs) = ap (λ ys. x ∷ ys) (linked t v xs)
 
 -- what a node is told is valid
 pub params_are_valid : (t : PlanText) (g : Graph) (rate : Rate) (v : ℕ) (links : List Link) (lead : ℕ) → IsAccepted t g → HasNumbers t.lo t.hi t.mu rate → g ≡ graph_of_text t
-    → links ≡ map (link_in t v) (neighbours_of g v) → lead ≡ iota_in t
+    → links ≡ map (link_in t v) (neighbours_of g v) → lead ≡ iota_in t → IsGraph g → v < g.nodes → t.cluster < 2 ^ 32 → t.every < 2 ^ 32
     → AreValid (record { cluster = t.cluster; node = v; links = links; rate = rate; iota = lead; every = t.every })
-params_are_valid t g rate v links lead is numbers graph are lead_is =
+params_are_valid t g rate v links lead is numbers graph are lead_is shape inside cluster every =
     let rates = rate.accepted in
     let lo : rate.lo ≡ t.lo = numbers.lo in
     let hi : rate.hi ≡ t.hi = numbers.hi in
@@ -125,10 +150,20 @@ params_are_valid t g rate v links lead is numbers graph are lead_is =
     let tenth : 10 * boosted t.mu t.hi ≤ t.hi = boosted_tenth t.mu t.hi (omega (arith, rates, mu)) in
     let ticks : drift_in t * t.tick ≤ drift_in t * 65536 = mul-le-mul_left (drift_in t) is.tick_most in
     let next : (k : ℕ) (d : ℕ) → k < length (neighbours_of g v) → Adjacent g v (get_or (neighbours_of g v) k d) = λ k d h. (neighbour_inside g v k d h).1 in
+    let alone : Adjacent g v v → ⊥ = λ h. no_self (shape_nodes t.shape) (shape_edges t.shape) v (subst (λ x. Adjacent x v v) graph h) in
+    let count : length (map (link_in t v) (neighbours_of g v)) ≡ length (neighbours_of g v) = length-map (neighbours_of g v) (link_in t v) in
     record {
+      ranges = record {
+        cluster = cluster;
+        node = omega (arith, inside, shape.few);
+        every = every;
+        links = rw are (All-map (λ link. link.node < 2 ^ 32) (link_in t v) (neighbours_of g v) (λ k d h.
+            let node = (neighbour_inside g v k d h).0 in omega (arith, node, shape.few)));
+      };
+      few = rw (are, count) (let fewer = few_neighbours g v inside alone in omega (arith, fewer, shape.few));
       ascending = rw (are, linked t v (neighbours_of g v)) (neighbours_ascend g v);
       others = rw are (All-map (λ link. link.node ≢ v) (link_in t v) (neighbours_of g v) (λ k d h. λ same.
-          no_self (shape_nodes t.shape) (shape_edges t.shape) v (subst (λ x. Adjacent x v v) graph (subst (λ x. Adjacent g v x) same (next k d h)))));
+          alone (subst (λ x. Adjacent g v x) same (next k d h))));
       sound = rw are (All-map IsSound (link_in t v) (neighbours_of g v) (λ k d h. sound_link t g v (get_or (neighbours_of g v) k d) low is (next k d h)));
       iota = omega (arith, ticks, tenth, lead_is, rates, lo, hi);
       every = is.every;

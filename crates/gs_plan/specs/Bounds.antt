@@ -5,7 +5,8 @@ use Rattle.gs_topo.specs.Walks.{diameter_of}
 use Rattle.gs_planfile.specs.declared.text.PlanText.{PlanText}
 use Rattle.gs_plan.specs.declared.edge.EdgeText.{EdgeText}
 use Rattle.gs_plan.specs.Edges.{own_text, edge_texts}
-use Rattle.gs_plan.specs.Levels.{best_of, bound_at}
+use Rattle.gs_plan.specs.Levels.{best_of}
+use Rattle.gs_units.specs.Levels.{bound_at}
 use Rattle.gs_plan.specs.Numbers.{g_in, iota_in, kappa_in, r_in, sigma_in, spread_in}
 
 -- the greatest of the plan's own value and those of all edges

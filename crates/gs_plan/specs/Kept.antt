@@ -1,14 +1,19 @@
 -- How a plan is made and kept: for its private functions alone.
-use Rattle.std.specs.Prelude.{◌≡◌, ℕ, ◌*◌, ◌<◌, ◌≤◌, ◌^◌, map}
+use Rattle.std.specs.Prelude.{◌≡◌, ℕ, ◌*◌, ◌<◌, ◌≤◌, ◌^◌, List, Option, map}
 use Rattle.gs_topo.specs.Graph.{Graph}
 use Rattle.gs_topo.specs.Weights.{Lengths}
+use Rattle.gs_planfile.specs.declared.text.EdgeSpan.{EdgeSpan}
 use Rattle.gs_planfile.specs.declared.text.PlanText.{PlanText}
 use Rattle.gs_plan.specs.declared.edge.EdgeNumbers.{EdgeNumbers}
 use Rattle.gs_plan.specs.declared.edge.EdgeText.{EdgeText}
 use Rattle.gs_plan.specs.declared.levels.Levels.{Levels}
-use Rattle.gs_plan.specs.Edges.{own_text}
+use Rattle.gs_plan.specs.Edges.{own_text, span_between}
 use Rattle.gs_plan.specs.Numbers.{comp_in, delta_in, iota_in, jump_in, kappa_in, least_kappa_in, numbers_of, r_in, sigma_in}
 use Rattle.gs_plan.specs.Bounds.{global_in, greatest_kappa_in, lambda_in}
+
+-- the span of each edge, in the order of the edges
+abbrev pub edge_spans : List EdgeSpan → Graph → List (Option EdgeSpan)
+edge_spans spans g = map (λ e. span_between spans e.0 e.1) g.edges
 
 -- the numbers of an edge are in order, and words of 64 bits hold them
 pub record AreWords (t : PlanText) (e : EdgeText) : Type 0 where

@@ -1,11 +1,5 @@
--- The bounds of the levels, from the bound of level 0, and the best level.
-use Rattle.std.specs.Prelude.{◌≡◌, ℕ, zero, suc, ◌+◌, ◌<◌, ◌≤◌, nat_lt, if◌then◌else◌}
-use Rattle.std.specs.Int.{div_ceil}
-
--- G(s), where G(0) is `first`
-abbrev pub bound_at : ℕ → ℕ → ℕ → ℕ → ℕ
-bound_at first sigma r zero = first
-bound_at first sigma r (suc s) = div_ceil (bound_at first sigma r s) sigma + r
+-- The best level, by its bound.
+use Rattle.std.specs.Prelude.{◌≡◌, ℕ, zero, suc, ◌<◌, ◌≤◌, nat_lt, if◌then◌else◌}
 
 -- the lesser of two levels with their values: the new one only where its value is below the old one's
 abbrev pub lesser : ℕ × ℕ → ℕ × ℕ → ℕ × ℕ

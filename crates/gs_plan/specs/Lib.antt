@@ -9,4 +9,5 @@ pub mod Kept
 pub mod Sets
 pub mod Nodes
 pub mod Plans
+pub mod Weights
 pub mod Words

@@ -1,10 +1,10 @@
 -- The numbers of a plan's rate and of its edges.
-use Rattle.std.specs.Prelude.{ℕ, ◌+◌, ◌-◌, ◌*◌, ◌/◌, List, map, unwrap_or}
+use Rattle.std.specs.Prelude.{ℕ, ◌+◌, ◌-◌, ◌*◌, ◌/◌, if◌then◌else◌, List, map, Option, Some, None, unwrap_or}
 use Rattle.std.specs.Int.{div_ceil}
 use Rattle.gs_units.specs.Accepted.{boosted, crept}
 use Rattle.gs_units.specs.Delays.{delay_comp, delay_jump, delay_spread}
 use Rattle.gs_planfile.specs.declared.text.PlanText.{PlanText}
-use Rattle.gs_topo.specs.Graph.{Graph}
+use Rattle.gs_topo.specs.Graph.{Graph, adjacent}
 use Rattle.gs_plan.specs.Edges.{edge_text, edge_texts}
 use Rattle.gs_plan.specs.declared.edge.EdgeText.{EdgeText}
 use Rattle.gs_plan.specs.declared.edge.EdgeNumbers.{EdgeNumbers}
@@ -75,6 +75,10 @@ numbers_in t e = record {
 -- the numbers of all edges of a graph, in their order
 abbrev pub numbers_of : PlanText → Graph → List EdgeNumbers
 numbers_of t g = map (numbers_in t) (edge_texts t g)
+
+-- the numbers of the edge between v and w, where there is one
+abbrev pub numbers_between : PlanText → Graph → ℕ → ℕ → Option EdgeNumbers
+numbers_between t g v w = if adjacent g v w then Some (numbers_in t (edge_text t (v, w))) else None
 
 -- the skew that one level allows between two neighbours
 abbrev pub kappa_between : PlanText → ℕ → ℕ → ℕ

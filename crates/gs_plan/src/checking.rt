@@ -1,15 +1,16 @@
-ghost use Rattle.std.specs.Prelude.{◌≡◌, ◌≢◌, ◌<◌, ◌^◌, ◌*◌, ◌+◌, [], false, Err, IfErr, IfOk, None, OnOk, Some, is_some, option_map};
+ghost use Rattle.std.specs.Prelude.{◌≡◌, ◌≢◌, ◌<◌, ◌^◌, ◌*◌, ◌+◌, ◌||◌, [], false, Err, IfErr, IfOk, IfSome, List, None, OnOk, Some, is_none, is_some, length, option_map, replicate, slice_index_or};
 ghost use Rattle.std.specs.List.{list_any};
 ghost use Rattle.gs_units.specs.Rates.{HasNumbers};
 ghost use Rattle.gs_units.specs.Faults.{rate_fault};
-ghost use Rattle.gs_topo.specs.Graph.{adjacent};
+ghost use Rattle.gs_topo.specs.Graph.{number_of};
 ghost use Rattle.gs_plan.specs.Accepted.{IsAccepted};
-ghost use Rattle.gs_plan.specs.Edges.{edge_texts, own_text, span_between, span_text};
+ghost use Rattle.gs_plan.specs.Edges.{edge_texts, own_text, span_text};
+ghost use Rattle.gs_plan.specs.Kept.{edge_spans};
 ghost use Rattle.gs_plan.specs.Faults.{are_bad_delays, are_bad_ports, are_low_kappas, beacon_bound, fault_over, fault_where, is_bad_span, is_low_kappa, is_one, is_outside, is_wide, plan_fault, span_fault};
 ghost use Rattle.gs_plan.specs.Plans.{text_of};
 
 use crate::bounds::{global, greatest_delay, greatest_kappa};
-use crate::edge::{EdgeText, edge_texts, own_text, span_between, span_text};
+use crate::edge::{EdgeText, edge_texts, own_text, span_text};
 use crate::fault::PlanFault;
 use crate::numbers::least_kappa;
 use crate::plan::Plan;
@@ -17,7 +18,7 @@ use crate::shape::topology_of;
 use gs_planfile::{EdgeSpan, PlanText, Version};
 use gs_topo::Topology;
 use gs_units::{END, Rate};
-use std::alloc::Global;
+use std::alloc::{AllocError, Global};
 
 /// The fault where the test holds.
 fn refuse(test: bool, fault: PlanFault) -> Result<(), PlanFault>
@@ -48,66 +49,74 @@ fn rate_of(text: &PlanText) -> Result<Rate, PlanFault>
     ensures err { IfErr result (λ e.
         option_map PlanFault.Rate (rate_fault text.now.lo text.now.hi text.now.mu) ≡ Some e) }
 {
-    match Rate::new(text.lo, text.hi, text.mu) {
-        Ok(rate) => Ok(rate),
-        Err(fault) => Err(PlanFault::Rate(fault)),
+    Rate::new(text.lo, text.hi, text.mu).map_err(PlanFault::Rate)
+}
+
+/// Whether a span that names an edge is at fault, where this is the edge's earlier span.
+fn is_bad_again(version: Version, earlier: Option<EdgeSpan>, span: EdgeSpan) -> bool
+    ensures { result ≡ is_one version
+        || (is_some earlier || are_bad_delays span.delay_min span.delay_max) }
+{
+    version == Version::One || earlier.is_some() || are_bad_delays(span.delay_min, span.delay_max)
+}
+
+/// The number of the edge of a span that is not at fault, where these are the spans of the edges
+/// before it.
+#[tactic(auto, using(crate::proofs::SpanTable::bad_nowhere))]
+fn free_edge(
+    version: Version,
+    topo: &Topology,
+    found: &[Option<EdgeSpan>],
+    span: EdgeSpan,
+) -> Option<u32>
+    requires { length found.now ≡ length topo.now.edges }
+    ensures edge { IfSome result (λ e. number_of topo.now span.a span.b ≡ Some e) }
+    ensures free { IfSome result (λ e. slice_index_or found.now e None ≡ None) }
+    ensures bad { (earlier : List EdgeSpan) → found.now ≡ edge_spans earlier topo.now
+        → is_bad_span version topo.now earlier span ≡ is_none result }
+{
+    let e = topo.edge_between(span.a, span.b)?;
+    if is_bad_again(version, found[e as usize], span) {
+        None
+    } else {
+        Some(e)
     }
 }
 
-/// Whether an edge joins `v` and `w`.
-#[tactic(auto, using(crate::proofs::Chain::places))]
-fn is_edge(topo: &Topology, v: u32, w: u32) -> bool
-    ensures { result ≡ adjacent topo.now v w }
+/// No span for any of so many edges.
+fn no_spans(alloc: Global, edges: usize) -> Result<Vec<Option<EdgeSpan>>, AllocError>
+    ensures { IfOk result (λ found. found.items ≡ replicate edges None) }
 {
-    topo.edge_between(v, w).is_some()
-}
-
-/// Whether one of these spans names `v` and `w`.
-fn is_named(spans: &[EdgeSpan], v: u32, w: u32) -> bool
-    ensures { result ≡ is_some (span_between spans.now v w) }
-{
-    span_between(spans, v, w).is_some()
-}
-
-/// Whether the version has no spans.
-fn is_one(version: Version) -> bool
-    ensures { result ≡ is_one version }
-{
-    match version {
-        Version::One => true,
-        Version::Two => false,
+    let mut found = Vec::new(alloc);
+    for _edge in 0..edges {
+        found.push(None)?;
     }
+    Ok(found)
 }
 
-/// Whether a span is at fault, where these spans stand before it.
-fn is_bad_span(version: Version, topo: &Topology, earlier: &[EdgeSpan], span: EdgeSpan) -> bool
-    ensures { result ≡ is_bad_span version topo.now earlier.now span }
-{
-    is_one(version)
-        || !is_edge(topo, span.a, span.b)
-        || is_named(earlier, span.a, span.b)
-        || are_bad_delays(span.delay_min, span.delay_max)
-}
-
-/// Refuses the first span that is at fault.
+/// The span of each edge by the number of the edge, or the first span that is at fault.
 #[tactic(auto, using(crate::proofs::Chain::spans))]
-fn check_spans(text: &PlanText, topo: &Topology) -> Result<(), PlanFault>
+fn spans_by_edge(
+    alloc: Global,
+    text: &PlanText,
+    topo: &Topology,
+) -> Result<Vec<Option<EdgeSpan>>, PlanFault>
+    ensures spans { IfOk result (λ found. found.items ≡ edge_spans text.now.spans topo.now) }
     ensures ok { OnOk result (span_fault text.now.version topo.now 0 [] text.now.spans ≡ None) }
     ensures err { IfErr result (λ e. e ≢ PlanFault.OutOfMemory
         → span_fault text.now.version topo.now 0 [] text.now.spans ≡ Some e) }
 {
-    let version = text.version;
     let spans = text.spans.as_slice();
+    let mut found = no_spans(alloc, topo.edges().len())?;
     for i in 0..spans.len() {
-        if is_bad_span(version, topo, &spans[..i], spans[i]) {
-            // No memory holds 2^32 spans.
-            return match u32::try_from(i) {
-                Ok(number) => Err(PlanFault::Span(number)),
-                Err(_) => Err(PlanFault::OutOfMemory),
-            };
-        }
+        let span = spans[i];
+        let Some(e) = free_edge(text.version, topo, &found, span) else {
+            // Each span before this one is that of another edge, so their number is small.
+            return Err(PlanFault::Span(i as u32));
+        };
+        found[e as usize] = Some(span);
     }
-    Ok(())
+    Ok(found)
 }
 
 /// The greatest gap between beacons of a node that are not lost, in quanta.
@@ -176,7 +185,7 @@ fn is_wide(text: &PlanText, rate: Rate, topo: &Topology, edges: &[EdgeText]) -> 
 }
 
 /// What the plan says of its edges, where it has no fault over its graph.
-#[tactic(auto, using(crate::proofs::Accepting::accepted_of))]
+#[tactic(auto, using(crate::proofs::Accepting::accepted_of, crate::proofs::SpanTable::texts_by_span))]
 fn checked_edges(
     alloc: Global,
     text: &PlanText,
@@ -194,8 +203,8 @@ fn checked_edges(
         are_bad_delays(text.delay_min, text.delay_max),
         PlanFault::Delay,
     )?;
-    check_spans(text, topo)?;
-    let edges = edge_texts(alloc, text, topo)?;
+    let spans = spans_by_edge(alloc, text, topo)?;
+    let edges = edge_texts(alloc, text, &spans)?;
     refuse(is_outside(1, 1024, text.every), PlanFault::Every)?;
     refuse(text.losses > 1024, PlanFault::Losses)?;
     let bound = beacon_bound(text, topo, &edges);

@@ -1,9 +1,8 @@
-ghost use Rattle.std.specs.Prelude.{◌≡◌, IfOk};
-ghost use Rattle.gs_topo.specs.Graph.{joins};
-ghost use Rattle.gs_plan.specs.Edges.{edge_text, edge_texts, own_text, span_between, span_text};
+ghost use Rattle.std.specs.Prelude.{◌≡◌, IfOk, map};
+ghost use Rattle.std.specs.Option.{option_map_or};
+ghost use Rattle.gs_plan.specs.Edges.{own_text, span_text};
 
 use gs_planfile::{EdgeSpan, PlanText};
-use gs_topo::Topology;
 use std::alloc::{AllocError, Global};
 
 /// What a plan says of an edge.
@@ -54,42 +53,28 @@ pub(crate) fn span_text(span: &EdgeSpan) -> EdgeText
     }
 }
 
-/// Whether the span names `v` and `w`, either way round.
-fn is_over(span: &EdgeSpan, v: u32, w: u32) -> bool
-    ensures { result ≡ joins (span.now.a, span.now.b) v w }
+/// What the plan says of an edge with this span.
+fn edge_text(text: &PlanText, span: Option<EdgeSpan>) -> EdgeText
+    ensures { result ≡ option_map_or span_text span (own_text text.now) }
 {
-    (span.a == v && span.b == w) || (span.a == w && span.b == v)
-}
-
-/// The span that names `v` and `w`.
-pub(crate) fn span_between(spans: &[EdgeSpan], v: u32, w: u32) -> Option<EdgeSpan>
-    ensures { result ≡ span_between spans.now v w }
-{
-    spans.iter().copied().find(|span| is_over(span, v, w))
-}
-
-/// What the plan says of the edge of `v` and `w`.
-fn edge_text(text: &PlanText, edge: (u32, u32)) -> EdgeText
-    ensures { result ≡ edge_text text.now edge }
-{
-    match span_between(text.spans.as_slice(), edge.0, edge.1) {
+    match span {
         Some(span) => span_text(&span),
         None => own_text(text),
     }
 }
 
-/// What the plan says of each edge, in the order of the edges.
+/// What the plan says of each edge, where these are their spans.
 pub(crate) fn edge_texts(
     alloc: Global,
     text: &PlanText,
-    topo: &Topology,
+    spans: &[Option<EdgeSpan>],
 ) -> Result<Vec<EdgeText>, AllocError>
-    ensures { IfOk result (λ texts. texts.items ≡ edge_texts text.now topo.now) }
+    ensures { IfOk result (λ texts.
+        texts.items ≡ map (λ span. option_map_or span_text span (own_text text.now)) spans.now) }
 {
-    let edges = topo.edges();
     let mut texts = Vec::new(alloc);
-    for edge in edges {
-        texts.push(edge_text(text, *edge))?;
+    for span in spans {
+        texts.push(edge_text(text, *span))?;
     }
     Ok(texts)
 }

@@ -63,7 +63,7 @@ impl fmt::Display for PlanFault {
             PlanFault::Weak => f.write_str("weak"),
             PlanFault::Kappa => f.write_str("kappa"),
             PlanFault::Wide => f.write_str("wide"),
-            PlanFault::OutOfMemory => f.write_str(""),
+            PlanFault::OutOfMemory => f.write_str("out of memory"),
         }
     }
 }

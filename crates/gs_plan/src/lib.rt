@@ -4,7 +4,7 @@
 pub use checking::check;
 pub use edge::EdgeNumbers;
 pub use fault::PlanFault;
-pub use laws::accepted_plans;
+pub use laws::{accepted_plans, weights_are_least_sums};
 pub use plan::Plan;
 
 mod bounds;

@@ -50,9 +50,10 @@ impl Plan {
     ghost use Rattle.gs_topo.specs.Graph.{Adjacent, neighbours_of};
     ghost use Rattle.gs_topo.specs.Walks.{IsLeast};
     ghost use Rattle.gs_plan.specs.Edges.{edge_texts, own_text};
-    ghost use Rattle.gs_plan.specs.Numbers.{comp_in, delta_in, iota_in, jump_in, kappa_between, kappa_in};
+    ghost use Rattle.gs_plan.specs.Numbers.{comp_in, delta_in, iota_in, jump_in, kappa_between, kappa_in, numbers_between};
     ghost use Rattle.gs_plan.specs.Bounds.{best_in, best_edge_in, greatest_kappa_in, lambda_in};
     ghost use Rattle.gs_plan.specs.Bounds.{level_in, local_in, skew_in};
+    ghost use Rattle.gs_plan.specs.Weights.{weight_in};
 
     /// The plan of a text that has no fault.
     pub(crate) fn of(
@@ -185,9 +186,10 @@ impl Plan {
     /// The first level whose bound for any edge is least, and that bound in clock units.
     pub fn best(&self) -> (u32, u64)
         ensures value { result ≡ best_in (text_of self.now) (graph_of self.now) }
-        ensures best { IsBest (local_in (text_of self.now) (graph_of self.now)) (text_of self.now).levels result }
+        ensures best { IsBest (local_in (text_of self.now) (graph_of self.now))
+            (text_of self.now).levels result }
     {
-        self.best_of(self.greatest_kappa)
+        self.best_over(self.greatest_kappa)
     }
 
     /// The numbers of the edge of this number.
@@ -196,6 +198,14 @@ impl Plan {
         ensures { slice_get (numbers_of (text_of self.now) (graph_of self.now)) e ≡ Some result }
     {
         self.edges[e as usize]
+    }
+
+    /// The numbers of the edge between `v` and `w`, where there is one.
+    pub fn edge_over(&self, v: u32, w: u32) -> Option<EdgeNumbers>
+        ensures { result ≡ numbers_between (text_of self.now) (graph_of self.now) v w }
+    {
+        let e = self.topo.edge_between(v, w)?;
+        Some(self.edges[e as usize])
     }
 
     /// The first level whose bound for the edge of this number is least, and that bound in clock
@@ -207,24 +217,30 @@ impl Plan {
         ensures best { IfSome (slice_get (numbers_of (text_of self.now) (graph_of self.now)) e) (λ edge.
             IsBest (skew_in (text_of self.now) (graph_of self.now) edge.kappa) (text_of self.now).levels result) }
     {
-        self.best_of(self.edge(e).kappa)
+        self.best_over(self.edge(e).kappa)
     }
 
-    /// The same for an edge of this kappa.
-    fn best_of(&self, kappa: u64) -> (u32, u64)
+    /// The first level whose bound for the ends of an edge of this kappa is least, and that bound, in
+    /// clock units.
+    pub fn best_over(&self, kappa: u64) -> (u32, u64)
         requires { 2 * (text_of self.now).levels * kappa < 2 ^ 62 }
-        ensures { result ≡ best_edge_in (text_of self.now) (graph_of self.now) kappa }
+        ensures value { result ≡ best_edge_in (text_of self.now) (graph_of self.now) kappa }
+        ensures best { IsBest (skew_in (text_of self.now) (graph_of self.now) kappa)
+            (text_of self.now).levels result }
     {
         self.levels.best(kappa)
     }
 
-    /// The least sum of the kappas of the edges of a walk from `v` to `w`, in clock units.
+    /// The weight of two nodes: the least sum of the kappas of the edges of a walk from `v` to `w`,
+    /// in clock units.
     pub fn weight(&self, v: u32, w: u32) -> u128
         requires { (v < (graph_of self.now).nodes) × (w < (graph_of self.now).nodes) }
-        ensures { IsLeast (Adjacent (graph_of self.now)) (graph_of self.now).nodes
+        ensures value { result ≡ weight_in (text_of self.now) (graph_of self.now) v w }
+        ensures least { IsLeast (Adjacent (graph_of self.now)) (graph_of self.now).nodes
             (kappa_between (text_of self.now)) v w result }
+        ensures small { result < 2 ^ 70 }
     {
-        self.weights.weight(v, w)
+        self.weights.weight(&self.topo, v, w)
     }
 
     /// What node `v` is told before it runs: each of its links has the numbers of its edge.
@@ -234,13 +250,15 @@ impl Plan {
             params ≡ params_in (text_of self.now) (graph_of self.now) (rate_of self.now) v) }
         ensures valid { IfOk result AreValid }
     {
+        // Read on their own, these two are known to be words of 32 bits.
+        let (cluster, every) = (self.text.cluster, self.text.every);
         Ok(NodeParams {
-            cluster: self.text.cluster,
+            cluster,
             node: v,
             links: Links::from_vec(self.links(alloc, v)?),
             rate: self.rate,
             iota: self.iota,
-            every: self.text.every,
+            every,
         })
     }
 
@@ -262,17 +280,14 @@ impl Plan {
         requires { Adjacent (graph_of self.now) v x }
         ensures { result ≡ link_in (text_of self.now) v x }
     {
-        match self.topo.edge_between(v, x) {
-            Some(e) => {
-                let edge = self.edges[e as usize];
-                Link {
-                    node: x,
-                    comp: edge.comp,
-                    jump: edge.jump,
-                    kappa: edge.kappa,
-                    delta: edge.delta,
-                }
-            }
+        match self.edge_over(v, x) {
+            Some(edge) => Link {
+                node: x,
+                comp: edge.comp,
+                jump: edge.jump,
+                kappa: edge.kappa,
+                delta: edge.delta,
+            },
             None => unreachable!(),
         }
     }

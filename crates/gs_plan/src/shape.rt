@@ -1,4 +1,4 @@
-ghost use Rattle.std.specs.Prelude.{◌≡◌, ◌≢◌, ◌+◌, ◌-◌, ◌*◌, ◌<◌, ◌≤◌, ◌++◌, ◌≡◌, IfErr, IfOk, OnOk, None, Some, option_map};
+ghost use Rattle.std.specs.Prelude.{◌≡◌, ◌≢◌, ◌+◌, ◌-◌, ◌*◌, ◌<◌, ◌≤◌, ◌++◌, IfErr, IfOk, OnOk, None, Some, option_map};
 ghost use Rattle.std.specs.List.{flat_map, range_with_len};
 ghost use Rattle.gs_topo.specs.Faults.{fault_of};
 ghost use Rattle.gs_plan.specs.Shapes.{column_edges, graph_of_text, grid_edges, line_edges, ring_edges, row_edges, shape_edges, shape_nodes};

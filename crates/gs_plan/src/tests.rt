@@ -1,4 +1,4 @@
-use crate::{EdgeNumbers, Plan, PlanFault, accepted_plans, check};
+use crate::{EdgeNumbers, Plan, PlanFault, accepted_plans, check, weights_are_least_sums};
 use gs_planfile::{EdgeList, EdgeSpan, PlanText, Shape, Spans, Version, base};
 use gs_topo::TopoFault;
 use gs_units::{Link, RateFault};
@@ -68,6 +68,7 @@ fn a_plan_has_its_numbers(rt: HostRuntime) -> Result<(), Fail> {
     assert_eq!(rt; (plan.rate().sigma(), plan.text().port), (20, 40_000));
     assert_eq!(rt; (plan.topo().nodes(), plan.topo().diameter()), (33, 32));
     accepted_plans();
+    weights_are_least_sums();
     Ok(())
 }
 
@@ -133,6 +134,12 @@ fn a_short_edge_has_its_own_numbers(rt: HostRuntime) -> Result<(), Fail> {
         assert_eq!(rt; edge_at(&plan, 0), Some((PLAIN, (0, 203_949))));
         assert_eq!(rt; edge_at(&plan, 1), Some((short, (1, 55_257))));
         assert_eq!(rt; edge_at(&plan, 2), None);
+        assert_eq!(rt;
+            (plan.edge_over(2, 1), plan.edge_over(0, 2)),
+            (Some(short), None)
+        );
+        assert!(rt; plan.text().levels == 4);
+        assert_eq!(rt; plan.best_over(22_529), (1, 55_257));
     }
     Ok(())
 }
@@ -271,7 +278,7 @@ fn each_fault_has_its_words(rt: HostRuntime) -> Result<(), Fail> {
         (PlanFault::Weak, "weak"),
         (PlanFault::Kappa, "kappa"),
         (PlanFault::Wide, "wide"),
-        (PlanFault::OutOfMemory, ""),
+        (PlanFault::OutOfMemory, "out of memory"),
     ] {
         assert_eq!(rt; fault.to_string(rt.alloc())?.as_str(), words);
     }

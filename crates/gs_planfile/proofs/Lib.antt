@@ -2,3 +2,4 @@ pub mod Views
 pub mod Inserted
 pub mod ReadBack
 pub mod Faults
+pub mod Written

@@ -1,11 +1,9 @@
-use Rattle.std.proofs.Common.{Ordering, Less, Equal, Greater, nat_cmp, arith, ◌≡◌, ◌<◌, ◌≤◌, ◌^◌, ◌==◌, refl, ℕ, pos, List, [], ◌∷◌, map, length, Bool, true, false, not, Option, Some, None, Ok}
+use Rattle.std.proofs.Common.{arith, ◌≡◌, ◌<◌, ◌^◌, ◌==◌, refl, ℕ, pos, List, [], ◌∷◌, map, length, Bool, true, false, not, Option, Some, None, Ok}
 use Rattle.std.specs.Prelude.{codes, if◌then◌else◌, IfSome}
 use Rattle.std.proofs.lemmas.Bool.{lt-ltb}
-use Rattle.std.specs.Cmp.Lexicographic.{slice_cmp}
-use Rattle.std.specs.Ordering.{match_ordering}
 use Rattle.std.specs.List.{list_all, AllByRecursion}
 use Rattle.toml.specs.View.{items_of}
-use Rattle.toml.specs.Data.{Data, depth, items_depth, members_depth, Members, no_members, member, get_item, get_member, integer, same_key}
+use Rattle.toml.specs.Data.{Data, Members, no_members, get_item, get_member, integer, same_key}
 use Rattle.gs_planfile.specs.declared.key.Key.{Key}
 use Rattle.gs_planfile.specs.declared.key.Key.TheVariants as key
 use Rattle.gs_planfile.specs.declared.text.EdgeSpan.{EdgeSpan}
@@ -15,7 +13,7 @@ use Rattle.gs_planfile.specs.declared.text.Shape.TheVariants as shape
 use Rattle.gs_planfile.specs.declared.text.Version.TheVariants as version
 use Rattle.gs_planfile.specs.Extra.{has_extra, is_allowed}
 use Rattle.gs_planfile.specs.Keys.{key_name}
-use Rattle.gs_planfile.specs.Lists.{each, edge_of, edges_of, is_edge, is_span, span_of, spans_at, values}
+use Rattle.gs_planfile.specs.Lists.{each, edge_of, is_edge, is_span, span_of, spans_at, values}
 use Rattle.gs_planfile.specs.Meaning.{plan_in}
 use Rattle.gs_planfile.specs.Shapes.{shape_at}
 use Rattle.gs_planfile.specs.Texts.{newest}
@@ -130,9 +128,6 @@ edges_formed (e ∷ es) = edges_formed es
 each_edge_back : (es : List (ℕ × ℕ)) → AllByRecursion EdgeFits es → each edge_of (values (items_of (map edge_data es))) ≡ Ok es
 each_edge_back [] h = refl
 each_edge_back (e ∷ es) h = rw (lt-ltb _ _ h.0.0, lt-ltb _ _ h.0.1, each_edge_back es h.1)
-
-edges_back : (es : List (ℕ × ℕ)) → AllByRecursion EdgeFits es → edges_of (edges_data es) ≡ Ok es
-edges_back es h = rw (edges_formed es, each_edge_back es h)
 
 -- a written span has its form
 span_formed : (s : EdgeSpan) → is_span (span_data s) ≡ true
@@ -273,61 +268,3 @@ plan_back t h =
       spans_back t h,
       extra_back t,
     )
-
--- no deeper than a document may be
-abbrev IsFlat : Members → Type 0
-IsFlat ms = members_depth ms ≤ 80
-
--- a flat value may be put
-flat : (k : List ℕ) (d : Data) (ms : Members) → depth d ≤ 80 → IsFlat ms → IsFlat (insert_member k d ms)
-unfolding insert_member
-flat k d no_members a b = omega (arith, a)
-flat k d (member m e ms) a b = by (slice_cmp nat_cmp k m) (flat k d ms a)
-  where
-    by : (o : Ordering) → (IsFlat ms → IsFlat (insert_member k d ms)) → IsFlat (match_ordering o (member k d (member m e ms)) (member m d ms) (member m e (insert_member k d ms)))
-    by Less ih = omega (arith, a, b)
-    by Equal ih = omega (arith, a, b)
-    by Greater ih = let low : IsFlat ms = omega (arith, b) in omega (arith, b, ih low)
-
-number : (k : Key) (n : ℕ) (ms : Members) → IsFlat ms → IsFlat (put_number k n ms)
-number k n ms h = flat (key_name k) (integer (pos n)) ms (omega arith) h
-
-kappa_flat : (o : Option ℕ) (ms : Members) → IsFlat ms → IsFlat (put_kappa o ms)
-unfolding put_kappa
-kappa_flat None ms h = h
-kappa_flat (Some n) ms h = number key.Kappa n ms h
-
--- an edge is one array deep, and a span as well
-edges_shallow : (es : List (ℕ × ℕ)) → items_depth (items_of (map edge_data es)) ≤ 1
-edges_shallow [] = omega arith
-edges_shallow (e ∷ es) = omega (arith, edges_shallow es)
-
-fifth_shallow : (o : Option ℕ) → items_depth (kappa_items o) ≤ 0
-fifth_shallow None = omega arith
-fifth_shallow (Some n) = omega arith
-
-spans_shallow : (ss : List EdgeSpan) → items_depth (items_of (map span_data ss)) ≤ 1
-spans_shallow [] = omega arith
-spans_shallow (s ∷ ss) = omega (arith, spans_shallow ss, fifth_shallow s.kappa)
-
-shape_flat : (s : Shape) (ms : Members) → IsFlat ms → IsFlat (put_shape s ms)
-unfolding put_shape
-shape_flat (shape.Line n) ms h = number key.Nodes n _ (flat _ _ ms (omega arith) h)
-shape_flat (shape.Ring n) ms h = number key.Nodes n _ (flat _ _ ms (omega arith) h)
-shape_flat (shape.Grid r q) ms h = number key.Cols q _ (number key.Rows r _ (flat _ _ ms (omega arith) h))
-shape_flat (shape.Edges n es) ms h = flat _ _ _ (omega (arith, edges_shallow es)) (number key.Nodes n _ (flat _ _ ms (omega arith) h))
-
-spans_flat : (ss : List EdgeSpan) (ms : Members) → IsFlat ms → IsFlat (put_spans ss ms)
-unfolding put_spans
-spans_flat ss ms h = by (length ss == 0)
-  where
-    by : (b : Bool) → IsFlat (if b then ms else put key.Spans (spans_data ss) ms)
-    by true = h
-    by false = flat (codes "spans") (spans_data ss) ms (omega (arith, spans_shallow ss)) h
-
--- what was written nests no deeper than a document may
-pub shallow : (t : PlanText) → members_depth (written t) ≤ 80
-shallow t =
-    spans_flat t.spans _ (number key.Port _ _ (number key.Levels _ _ (kappa_flat t.kappa _
-    (number key.Age _ _ (number key.Losses _ _ (number key.Every _ _ (number key.DelayMax _ _ (number key.DelayMin _ _ (number key.Tick _ _
-    (number key.Mu _ _ (number key.Hi _ _ (number key.Lo _ _ (shape_flat t.shape _ (number key.Cluster _ _ (number key.Version 2 no_members (omega arith))))))))))))))))

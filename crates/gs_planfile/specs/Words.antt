@@ -12,4 +12,4 @@ why_of (fault.Missing key) = codes "missing " ++ key_name key
 why_of (fault.Kind key) = codes "kind " ++ key_name key
 why_of (fault.Range key) = codes "range " ++ key_name key
 why_of fault.Extra = codes "extra"
-why_of fault.OutOfMemory = codes ""
+why_of fault.OutOfMemory = codes "out of memory"

@@ -109,7 +109,7 @@ impl fmt::Display for PlanFileFault {
             PlanFileFault::Kind(key) => write!(f, "kind {}", key.name()),
             PlanFileFault::Range(key) => write!(f, "range {}", key.name()),
             PlanFileFault::Extra => f.write_str("extra"),
-            PlanFileFault::OutOfMemory => f.write_str(""),
+            PlanFileFault::OutOfMemory => f.write_str("out of memory"),
         }
     }
 }

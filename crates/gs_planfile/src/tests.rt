@@ -320,7 +320,7 @@ fn each_fault_has_its_words(rt: HostRuntime) -> Result<(), Fail> {
         (Kind(Key::Spans), "kind spans"),
         (Range(Key::Version), "range version"),
         (Extra, "extra"),
-        (OutOfMemory, ""),
+        (OutOfMemory, "out of memory"),
     ] {
         assert_eq!(rt; fault.to_string(rt.alloc())?.as_str(), words);
     }

@@ -208,6 +208,8 @@ pub fn migrate(alloc: Global, text: &PlanText) -> Result<Vec<u8>, AllocError>
     let table = table_of(alloc, text)?;
     match toml::table_to_string(alloc, &table) {
         Ok(text) => Ok(text.into_bytes()),
-        Err(_) => Err(AllocError),
+        Err(toml::ser::Error::OutOfMemory) => Err(AllocError),
+        // No date is written.
+        Err(toml::ser::Error::DateInvalid) => unreachable!(),
     }
 }

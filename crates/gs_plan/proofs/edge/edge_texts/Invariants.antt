@@ -1,6 +1,7 @@
 use Rattle.std.proofs.Common.{◌≡◌, map, take}
-use Rattle.gs_plan.specs.Edges.{edge_text}
+use Rattle.std.specs.Option.{option_map_or}
+use Rattle.gs_plan.specs.Edges.{own_text, span_text}
 use Rattle.gs_plan.proofs.edge.edge_texts.Given as goal
 
-abbrev pub invariant-loop-edge : goal.invariant-loop-edge
-invariant-loop-edge l = l.texts.items ≡ map (edge_text l.text) (take l.edge-index l.edges)
+abbrev pub invariant-loop-span : goal.invariant-loop-span
+invariant-loop-span l = l.texts.items ≡ map (λ o. option_map_or span_text o (own_text l.text)) (take l.span-index l.spans)
