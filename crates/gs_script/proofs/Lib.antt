@@ -6,5 +6,7 @@ pub mod Delays
 pub mod Within
 pub mod ReadWithin
 pub mod Latest
+pub mod Painting
+pub mod Numbers
 pub mod Keeping
 pub mod Folded

@@ -11,8 +11,8 @@ use Rattle.gs_script.specs.Checks.{flag_in, is_delay_outside, is_large, quanta_i
 use Rattle.gs_script.specs.Fields.{◌>>=◌, begins_with, count_in, node_at, number_at, require, texts_in, word_at}
 use Rattle.gs_script.specs.Kept.{Fits}
 use Rattle.gs_script.specs.Reading.{beacon_fields, delay_at, drift_at, line_at, line_of, lines_from, loss_at}
-use Rattle.gs_script.specs.Reading.{most_records, node_fields, quanta_at, script_of_records, steady_of, tick_at}
-use Rattle.gs_script.specs.Script.{IsScript, Said}
+use Rattle.gs_script.specs.Reading.{max_records, node_fields, quanta_at, script_of_records, steady_of, tick_at}
+pub use Rattle.gs_script.specs.Laws.{IsReadOf}
 use Rattle.gs_script.specs.declared.fault.ScriptFault.{ScriptFault}
 use Rattle.gs_script.specs.declared.fault.ScriptFault.TheVariants as fault
 use Rattle.gs_script.specs.declared.fields.Word.{Word}
@@ -20,10 +20,6 @@ use Rattle.gs_script.specs.declared.fields.Word.TheVariants.{Quanta, Drift, Tick
 use Rattle.gs_script.specs.declared.line.Span.{Span}
 use Rattle.gs_script.specs.declared.line.Who.{Who}
 use Rattle.gs_script.proofs.Within.{plan_bounds, script_within}
-
--- a script of the plan of this text, within its bounds
-abbrev pub IsReadOf : PlanText → Said → Type 0
-IsReadOf t said = (said.text ≡ t) × IsScript said
 
 -- ---- one step after the other
 
@@ -97,7 +93,7 @@ line_fits : (t : PlanText) (quanta k : ℕ) (fs : List (List ℕ)) → IfOk (lin
 unfolding line_at
 line_fits t quanta k fs =
     passes (texts_in k fs) _ (Fits t) (λ texts.
-    passes (require (nat_le k most_records) fault.Large) _ (Fits t) (λ room.
+    passes (require (nat_le k max_records) fault.Large) _ (Fits t) (λ room.
     passes (word_at k fs) _ (Fits t) (λ word. word_fits t quanta k fs word)))
 
 lines_fit : (t : PlanText) (quanta k : ℕ) (rows : List (List (List ℕ))) → IfOk (lines_from t quanta k rows) (All (Fits t))

@@ -1,9 +1,13 @@
-use Rattle.std.proofs.Common.{take, None, ap, ◌+◌, arith, ◌≡◌, ℕ, suc, List, [], ◌∷◌, Option, Some, true, false, refl, zero}
+-- The records that csv reads one by one are those of the whole text, and what it refuses.
+use Rattle.std.proofs.Common.{take, None, ap, ◌+◌, arith, ◌≡◌, ℕ, suc, List, [], ◌∷◌, Option, Some, true, false, refl, sym, ◌∙◌, zero}
 use Rattle.csv.specs.Machine.{Read, next_record}
-use Rattle.csv.specs.Reading.{records_next, Reached, ReadRecord, records_from, source_of}
+use Rattle.csv.specs.Reading.{ExplainsRead, records_next, Reached, ReadRecord, records_from, source_of}
 use Rattle.csv.specs.declared.parser.Config.{Config}
 use Rattle.csv.specs.declared.parser.State.{State}
 use Rattle.csv.specs.declared.reader.Reader.{Reader}
+use Rattle.csv.specs.declared.error.ErrorKind.{ErrorKind}
+use Rattle.csv.specs.declared.error.ErrorKind.TheVariants as kind
+use Rattle.gs_script.specs.Rows.{IsMemory}
 use Rattle.csv.proofs.ReadFacts.{rows-end, rows-more}
 
 step : (cfg : Config) (n : ℕ) (s s2 : State) (y z : List ℕ) (f : List (List ℕ)) (p : Read) → next_record cfg s [] [] y ≡ Some p → f ≡ p.0 → p.1 ≡ s2 → p.2 ≡ z
@@ -39,3 +43,12 @@ records-front cfg (suc n) m s xs =
         → records_next (records_from cfg n) o ≡ take (suc n) (records_next (records_from cfg (n + m)) o)
     by None ih = refl
     by (Some p) ih = ap (λ rs. p.0 ∷ rs) (ih p.1 p.2)
+
+-- a reader that lets records differ in length refuses memory alone
+pub is_memory : {R : Type 0} (rem : R → Option (List ℕ)) (a b : Reader R) (k : ErrorKind) → a.flexible ≡ true → ExplainsRead rem a b false k → IsMemory k
+is_memory rem a b (kind.Io e) free why = tt
+is_memory rem a b kind.OutOfMemory free why = tt
+is_memory rem a b (kind.UnequalLengths pos expected len) free why = (let clash : true ≡ false = sym free ∙ why.0 in cc)
+is_memory rem a b (kind.Utf8 pos err) free why = (let clash : false ≡ true = why.0 in cc)
+is_memory rem a b (kind.Serialize text) free why = why
+is_memory rem a b (kind.Deserialize pos err) free why = why

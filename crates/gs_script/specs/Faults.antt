@@ -16,4 +16,4 @@ why_of (fault.Edge k) = codes "edge " ++ decimal k
 why_of (fault.Span k) = codes "span " ++ decimal k
 why_of (fault.Bound k) = codes "bound " ++ decimal k
 why_of fault.Large = codes "large"
-why_of fault.OutOfMemory = codes ""
+why_of fault.OutOfMemory = codes "out of memory"

@@ -1,7 +1,11 @@
 pub mod Faults
 pub mod Lines
+pub mod Lasts
 pub mod Script
+pub mod Laws
 pub mod Fields
 pub mod Checks
 pub mod Reading
+pub mod Rows
+pub mod Runs
 pub mod Kept

@@ -78,14 +78,14 @@ line_of t quanta k fs Delay = delay_at t quanta k fs
 line_of t quanta k fs Loss = loss_at t quanta k fs
 
 -- the most records of a script
-abbrev pub most_records : ℕ
-most_records = 4096
+abbrev pub max_records : ℕ
+max_records = 4096
 
 -- record k, from the second on
 unfoldable pub line_at : PlanText → ℕ → ℕ → List (List ℕ) → Result Line ScriptFault
 line_at t quanta k fs = do
   texts ← texts_in k fs
-  room ← require (nat_le k most_records) fault.Large
+  room ← require (nat_le k max_records) fault.Large
   word ← word_at k fs
   line_of t quanta k fs word
 
@@ -113,7 +113,7 @@ script_of_records t (r ∷ rs) =
 -- None behind the first that is too many is looked at, since that one is at fault.
 abbrev pub script_of : PlanText → List ℕ → Result Said ScriptFault
 script_of t bytes =
-    script_of_records t (records_from default_config (most_records + 1) st.StartRecord (strip_bom bytes))
+    script_of_records t (records_from default_config (max_records + 1) st.StartRecord (strip_bom bytes))
 
 -- the script of the one record quanta,N
 abbrev pub steady_of : PlanText → ℕ → Result Said ScriptFault

@@ -3,7 +3,7 @@ ghost use Rattle.std.specs.List.{list_any};
 ghost use Rattle.gs_plan.specs.Plans.{text_of};
 ghost use Rattle.gs_script.specs.Checks.{delay_in, edge_in, flag_in, is_bad_delay, is_delay_outside, is_large};
 ghost use Rattle.gs_script.specs.Checks.{may_be_joined, meets, quanta_in, span_in, value_within, who_in};
-ghost use Rattle.gs_script.specs.Kept.{IsKnown, links_of};
+ghost use Rattle.gs_script.specs.Kept.{IsKnown, IsSpan, links_of};
 
 use crate::fault::ScriptFault;
 use crate::fields::{NodeField, require};
@@ -12,7 +12,7 @@ use crate::links::{Link, graph};
 use gs_plan::Plan;
 
 /// The most quanta of a script.
-const MAX_QUANTA: u64 = 1_048_576;
+const MAX_SCRIPT_QUANTA: u64 = 1_048_576;
 
 /// The most work of a script: its quanta times the nodes and edges of the plan.
 const MAX_WORK: u128 = 67_108_864;
@@ -23,7 +23,7 @@ fn is_large(plan: &Plan, quanta: u64) -> bool
 {
     let graph = graph(plan);
     let size = u128::from(graph.nodes()) + graph.edges().len() as u128;
-    quanta > MAX_QUANTA || u128::from(quanta) * size > MAX_WORK
+    quanta > MAX_SCRIPT_QUANTA || u128::from(quanta) * size > MAX_WORK
 }
 
 /// A count of quanta, within the limits.
@@ -77,7 +77,8 @@ pub(crate) fn edge_in(plan: &Plan, k: u32, v: Who, w: Who) -> Result<(), ScriptF
 
 /// A span within the quanta of the script.
 pub(crate) fn span_in(quanta: u32, k: u32, from: u64, to: u64) -> Result<Span, ScriptFault>
-    ensures { result ≡ span_in quanta k from to }
+    ensures value { result ≡ span_in quanta k from to }
+    ensures span { IfOk result IsSpan }
 {
     if from == 0 || to < from || u64::from(quanta) < to {
         Err(ScriptFault::Span(k))

@@ -56,7 +56,7 @@ impl fmt::Display for ScriptFault {
             ScriptFault::Span(k) => write!(f, "span {k}"),
             ScriptFault::Bound(k) => write!(f, "bound {k}"),
             ScriptFault::Large => f.write_str("large"),
-            ScriptFault::OutOfMemory => f.write_str(""),
+            ScriptFault::OutOfMemory => f.write_str("out of memory"),
         }
     }
 }

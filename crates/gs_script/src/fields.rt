@@ -95,23 +95,14 @@ fn word_of(field: &[u8]) -> Option<Word>
 pub(crate) fn word_at(k: u32, row: &ByteRecord) -> Result<Word, ScriptFault>
     ensures { result ≡ word_at k (fields_of row.now) }
 {
-    match row.get(0) {
-        Some(field) => match word_of(field) {
-            Some(word) => Ok(word),
-            None => Err(ScriptFault::Word(k)),
-        },
-        None => Err(ScriptFault::Word(k)),
-    }
+    row.get(0).and_then(word_of).ok_or(ScriptFault::Word(k))
 }
 
 /// Whether the first field is this word.
 pub(crate) fn begins_with(word: &[u8], row: &ByteRecord) -> bool
     ensures { result ≡ begins_with word.now (fields_of row.now) }
 {
-    match row.get(0) {
-        Some(field) => field == word,
-        None => false,
-    }
+    row.get(0).is_some_and(|field| field == word)
 }
 
 /// The number in field `i` of record `k`.
@@ -119,13 +110,9 @@ pub(crate) fn begins_with(word: &[u8], row: &ByteRecord) -> bool
 pub(crate) fn number_at(k: u32, row: &ByteRecord, i: usize) -> Result<u64, ScriptFault>
     ensures { result ≡ number_at k (fields_of row.now) i }
 {
-    match row.get(i) {
-        Some(field) => match read_u64(field) {
-            Some(n) => Ok(n),
-            None => Err(ScriptFault::Number(k)),
-        },
-        None => Err(ScriptFault::Number(k)),
-    }
+    row.get(i)
+        .and_then(|field| read_u64(field))
+        .ok_or(ScriptFault::Number(k))
 }
 
 fn star_or_number(field: &[u8]) -> Option<NodeField>
@@ -134,10 +121,7 @@ fn star_or_number(field: &[u8]) -> Option<NodeField>
     if field == b"*".as_slice() {
         return Some(NodeField::Star);
     }
-    match read_u64(field) {
-        Some(n) => Some(NodeField::Number(n)),
-        None => None,
-    }
+    read_u64(field).map(NodeField::Number)
 }
 
 /// The node in field `i` of record `k`, or the star.
@@ -145,11 +129,7 @@ fn star_or_number(field: &[u8]) -> Option<NodeField>
 pub(crate) fn node_at(k: u32, row: &ByteRecord, i: usize) -> Result<NodeField, ScriptFault>
     ensures { result ≡ node_at k (fields_of row.now) i }
 {
-    match row.get(i) {
-        Some(field) => match star_or_number(field) {
-            Some(node) => Ok(node),
-            None => Err(ScriptFault::Number(k)),
-        },
-        None => Err(ScriptFault::Number(k)),
-    }
+    row.get(i)
+        .and_then(star_or_number)
+        .ok_or(ScriptFault::Number(k))
 }

@@ -3,19 +3,25 @@
 #![tactic(auto)]
 
 pub use fault::ScriptFault;
+pub use laws::scripts_are_within;
 pub use read::read_script;
+pub use run::{Run, WayRun};
 pub use script::Script;
 
 mod checks;
 mod fault;
 mod fields;
 mod kept;
+mod laws;
 mod line;
 mod links;
 mod places;
 mod read;
 mod record;
 mod rows;
+mod run;
+mod runs;
 mod script;
+mod settings;
 #[cfg(test)]
 mod tests;

@@ -1,6 +1,6 @@
 ghost use Rattle.std.specs.Prelude.{◌≡◌};
-ghost use Rattle.gs_script.specs.Kept.{matches, setting_in};
-ghost use Rattle.gs_script.specs.Lines.{holds, is_for};
+ghost use Rattle.gs_script.specs.Kept.{home, is_in, is_same};
+ghost use Rattle.gs_script.specs.Lines.{is_for};
 
 /// A node, or the star, which stands for every node.
 #[derive(Clone, Copy, Debug, PartialEq, Eq)]
@@ -36,14 +36,13 @@ pub struct Line {
     pub setting: Setting,
 }
 
-/// What is asked of a script: the drift or the tick gap of a node, or the delay or the loss of beacons
-/// from the first node to the second.
+/// A part of the records: those that set one thing and name the same nodes or stars.
 #[derive(Clone, Copy, Debug, PartialEq, Eq)]
-pub enum Topic {
-    Drift(u32),
-    Tick(u32),
-    Delay(u32, u32),
-    Loss(u32, u32),
+pub enum Part {
+    Drift(Who),
+    Tick(Who),
+    Delay(Who, Who),
+    Loss(Who, Who),
 }
 
 impl Who {
@@ -56,41 +55,46 @@ impl Who {
             Who::One(w) => w == v,
         }
     }
-}
 
-impl Span {
-    fn holds(self, t: u32) -> bool
-        ensures { result ≡ holds self t }
+    /// Whether both are the star, or the same node.
+    pub(crate) fn is_same(self, other: Who) -> bool
+        ensures { result ≡ is_same self other }
     {
-        self.from <= t && t <= self.to
-    }
-}
-
-impl Topic {
-    /// Whether it is what a record sets.
-    pub(crate) fn matches(self, setting: Setting) -> bool
-        ensures { result ≡ matches self setting }
-    {
-        match (self, setting) {
-            (Topic::Drift(v), Setting::Drift { node, .. })
-            | (Topic::Tick(v), Setting::Tick { node, .. }) => node.is_for(v),
-            (Topic::Delay(v, w), Setting::Delay { from, to, .. })
-            | (Topic::Loss(v, w), Setting::Loss { from, to, .. }) => from.is_for(v) && to.is_for(w),
+        match (self, other) {
+            (Who::Every, Who::Every) => true,
+            (Who::One(v), Who::One(w)) => v == w,
             _ => false,
         }
     }
 }
 
-impl Line {
-    /// What it sets in a quantum of its span.
-    pub(crate) fn setting_in(&self, t: u32) -> Option<Setting>
-        ensures { result ≡ setting_in t self.now }
+impl Setting {
+    /// The node that keeps a record: the one that it names, of two the sender, or the star.
+    pub(crate) fn home(self) -> Who
+        ensures { result ≡ home self }
     {
-        let line = *self;
-        if line.span.holds(t) {
-            Some(line.setting)
-        } else {
-            None
+        match self {
+            Setting::Drift { node, .. } | Setting::Tick { node, .. } => node,
+            Setting::Delay { from, to, .. } | Setting::Loss { from, to, .. } => match from {
+                Who::Every => to,
+                Who::One(v) => Who::One(v),
+            },
+        }
+    }
+}
+
+impl Part {
+    /// Whether a record belongs to it.
+    pub(crate) fn has(self, setting: Setting) -> bool
+        ensures { result ≡ is_in self setting }
+    {
+        match (self, setting) {
+            (Part::Drift(who), Setting::Drift { node, .. })
+            | (Part::Tick(who), Setting::Tick { node, .. }) => node.is_same(who),
+            (Part::Delay(v, w), Setting::Delay { from, to, .. })
+            | (Part::Loss(v, w), Setting::Loss { from, to, .. }) => from.is_same(v)
+                && to.is_same(w),
+            _ => false,
         }
     }
 }

@@ -1,7 +1,7 @@
 ghost use Rattle.std.specs.Prelude.{◌≡◌, ◌≢◌, ◌+◌, ◌≤◌, All, Err, IfErr, IfOk, Ok, length, map};
 ghost use Rattle.csv.specs.Records.{fields_of};
 ghost use Rattle.gs_plan.specs.Plans.{text_of};
-ghost use Rattle.gs_script.specs.Kept.{Fits, links_of};
+ghost use Rattle.gs_script.specs.Kept.{Fits, IsSpan, links_of};
 ghost use Rattle.gs_script.specs.Reading.{lines_from, script_of, script_of_records, steady_of};
 ghost use Rattle.gs_script.specs.Script.{IsScript};
 
@@ -9,7 +9,7 @@ use crate::checks::quanta_in;
 use crate::fault::ScriptFault;
 use crate::line::Line;
 use crate::links::{Link, links};
-use crate::record::{MOST_RECORDS, line_at, quanta_at};
+use crate::record::{MAX_RECORDS, line_at, quanta_at};
 use crate::rows::first_rows;
 use crate::script::Script;
 use csv::ByteRecord;
@@ -25,12 +25,13 @@ fn lines_from(
     quanta: u32,
     rows: &[ByteRecord],
 ) -> Result<Vec<Line>, ScriptFault>
-    requires few { length rows.now ≤ MOST_RECORDS }
+    requires few { length rows.now ≤ MAX_RECORDS }
     requires links { links.now ≡ links_of (text_of plan.now) }
     ensures ok { IfOk result (λ lines.
         lines_from (text_of plan.now) quanta 2 (map fields_of rows.now) ≡ Ok lines.items) }
     ensures fits { IfOk result (λ lines. All (Fits (text_of plan.now)) lines.items) }
-    ensures few { IfOk result (λ lines. length lines.items ≤ MOST_RECORDS) }
+    ensures spans { IfOk result (λ lines. All (λ l. IsSpan l.span) lines.items) }
+    ensures few { IfOk result (λ lines. length lines.items ≤ MAX_RECORDS) }
     ensures err { IfErr result (λ e. e ≢ ScriptFault.OutOfMemory
         → lines_from (text_of plan.now) quanta 2 (map fields_of rows.now) ≡ Err e) }
 {
@@ -47,7 +48,7 @@ fn lines_from(
 /// The script of these records.
 #[tactic(auto, unfolding(crate::specs::Reading::script_of_records))]
 fn script_of_records(alloc: Global, plan: &Plan, rows: &[ByteRecord]) -> Result<Script, ScriptFault>
-    requires { length rows.now ≤ MOST_RECORDS + 1 }
+    requires { length rows.now ≤ MAX_RECORDS + 1 }
     ensures ok { IfOk result (λ script. script_of_records (text_of plan.now) (map fields_of rows.now) ≡ Ok script) }
     ensures text { IfOk result (λ script. script.text ≡ text_of plan.now) }
     ensures within { IfOk result IsScript }

@@ -2,7 +2,7 @@ ghost use Rattle.std.specs.Prelude.{◌≡◌, ◌≤◌, IfOk, false};
 ghost use Rattle.csv.specs.Records.{fields_of};
 ghost use Rattle.gs_plan.specs.Plans.{text_of};
 ghost use Rattle.gs_script.specs.Checks.{is_large};
-ghost use Rattle.gs_script.specs.Kept.{Fits, links_of};
+ghost use Rattle.gs_script.specs.Kept.{Fits, IsSpan, links_of};
 ghost use Rattle.gs_script.specs.Reading.{beacon_fields, delay_at, drift_at, line_at, line_of, loss_at};
 ghost use Rattle.gs_script.specs.Reading.{node_fields, quanta_at, tick_at};
 
@@ -15,7 +15,7 @@ use csv::ByteRecord;
 use gs_plan::Plan;
 
 /// The most records of a script.
-pub(crate) const MOST_RECORDS: u32 = 4_096;
+pub(crate) const MAX_RECORDS: u32 = 4_096;
 
 /// NODE,FROM,TO,VALUE of record `k`: of whom, in which quanta, and the value, which is within `low` to
 /// `high`.
@@ -30,6 +30,7 @@ fn node_fields(
 ) -> Result<(Who, Span, u32), ScriptFault>
     ensures value { result ≡ node_fields (text_of plan.now) quanta low high k (fields_of row.now) }
     ensures within { IfOk result (λ said. (low ≤ said.2) × (said.2 ≤ high)) }
+    ensures span { IfOk result (λ said. IsSpan said.1) }
 {
     count_in(5, k, row)?;
     let node = node_at(k, row, 1)?;
@@ -47,6 +48,7 @@ fn node_fields(
 fn drift_at(plan: &Plan, quanta: u32, k: u32, row: &ByteRecord) -> Result<Line, ScriptFault>
     ensures value { result ≡ drift_at (text_of plan.now) quanta k (fields_of row.now) }
     ensures fits { IfOk result (Fits (text_of plan.now)) }
+    ensures span { IfOk result (λ l. IsSpan l.span) }
 {
     let text = plan.text();
     let (who, span, inc) = node_fields(plan, quanta, text.lo, text.hi, k, row)?;
@@ -61,6 +63,7 @@ fn drift_at(plan: &Plan, quanta: u32, k: u32, row: &ByteRecord) -> Result<Line, 
 fn tick_at(plan: &Plan, quanta: u32, k: u32, row: &ByteRecord) -> Result<Line, ScriptFault>
     ensures value { result ≡ tick_at (text_of plan.now) quanta k (fields_of row.now) }
     ensures fits { IfOk result (Fits (text_of plan.now)) }
+    ensures span { IfOk result (λ l. IsSpan l.span) }
 {
     let (who, span, gap) = node_fields(plan, quanta, 1, plan.text().tick, k, row)?;
     Ok(Line {
@@ -78,7 +81,8 @@ fn beacon_fields(
     k: u32,
     row: &ByteRecord,
 ) -> Result<(Who, Who, Span, u64), ScriptFault>
-    ensures { result ≡ beacon_fields (text_of plan.now) quanta k (fields_of row.now) }
+    ensures value { result ≡ beacon_fields (text_of plan.now) quanta k (fields_of row.now) }
+    ensures span { IfOk result (λ said. IsSpan said.2) }
 {
     count_in(6, k, row)?;
     let first = node_at(k, row, 1)?;
@@ -105,6 +109,7 @@ fn delay_at(
     requires { links.now ≡ links_of (text_of plan.now) }
     ensures value { result ≡ delay_at (text_of plan.now) quanta k (fields_of row.now) }
     ensures fits { IfOk result (Fits (text_of plan.now)) }
+    ensures span { IfOk result (λ l. IsSpan l.span) }
 {
     let (sender, receiver, span, delay) = beacon_fields(plan, quanta, k, row)?;
     let delay = delay_in(plan, links, k, sender, receiver, delay)?;
@@ -123,6 +128,7 @@ fn delay_at(
 fn loss_at(plan: &Plan, quanta: u32, k: u32, row: &ByteRecord) -> Result<Line, ScriptFault>
     ensures value { result ≡ loss_at (text_of plan.now) quanta k (fields_of row.now) }
     ensures fits { IfOk result (Fits (text_of plan.now)) }
+    ensures span { IfOk result (λ l. IsSpan l.span) }
 {
     let (sender, receiver, span, flag) = beacon_fields(plan, quanta, k, row)?;
     let is_lost = flag_in(k, flag)?;
@@ -148,6 +154,7 @@ fn line_of(
     requires { links.now ≡ links_of (text_of plan.now) }
     ensures value { result ≡ line_of (text_of plan.now) quanta k (fields_of row.now) word }
     ensures fits { IfOk result (Fits (text_of plan.now)) }
+    ensures span { IfOk result (λ l. IsSpan l.span) }
 {
     match word {
         Word::Quanta => Err(ScriptFault::Again(k)),
@@ -170,9 +177,10 @@ pub(crate) fn line_at(
     requires { links.now ≡ links_of (text_of plan.now) }
     ensures value { result ≡ line_at (text_of plan.now) quanta k (fields_of row.now) }
     ensures fits { IfOk result (Fits (text_of plan.now)) }
+    ensures span { IfOk result (λ l. IsSpan l.span) }
 {
     texts_in(k, row)?;
-    require(k <= MOST_RECORDS, ScriptFault::Large)?;
+    require(k <= MAX_RECORDS, ScriptFault::Large)?;
     let word = word_at(k, row)?;
     line_of(plan, links, quanta, k, row, word)
 }

@@ -1,7 +1,7 @@
 ghost use Rattle.std.specs.Prelude.{◌≡◌};
 ghost use Rattle.gs_plan.specs.Plans.{text_of};
 
-use crate::{Script, ScriptFault, read_script};
+use crate::{Script, ScriptFault, read_script, scripts_are_within};
 use gs_plan::{Plan, check};
 use gs_planfile::{EdgeSpan, PlanText, Shape, Spans, Version, base};
 use std::alloc::Global;
@@ -133,6 +133,8 @@ fn the_first_record_at_fault_is_named(rt: HostRuntime) -> Result<(), Fail> {
     ] {
         assert_eq!(rt; why(alloc, &plan, script)?.as_str(), wanted);
     }
+    let memory = ScriptFault::OutOfMemory.to_string(alloc)?;
+    assert_eq!(rt; memory.as_str(), "out of memory");
     Ok(())
 }
 
@@ -278,6 +280,55 @@ fn the_last_record_that_matches_wins(rt: HostRuntime) -> Result<(), Fail> {
     Ok(())
 }
 
+/// How long the increment and the tick gap of a node stay the same.
+fn node_until(plan: &Plan, script: &Script, v: u32, t: u32) -> Option<(u32, u32)>
+    requires { script.now.text ≡ text_of plan.now }
+{
+    if v < plan.topo().nodes() {
+        Some((script.inc_run(v, t).until, script.gap_run(v, t).until))
+    } else {
+        None
+    }
+}
+
+/// How long the delay and the loss of a beacon do.
+fn beacon_until(plan: &Plan, script: &Script, from: u32, to: u32, t: u32) -> Option<u32>
+    requires { script.now.text ≡ text_of plan.now }
+{
+    let graph = plan.topo();
+    if from < graph.nodes() && to < graph.nodes() && graph.adjacent(from, to) {
+        Some(script.way_run(from, to, t).until)
+    } else {
+        None
+    }
+}
+
+#[test]
+fn runs_end_where_a_record_begins_or_ends(rt: HostRuntime) -> Result<(), Fail> {
+    let alloc = rt.alloc();
+    let plan = spanned(alloc)?;
+    let script = read_script(alloc, RECORDS.as_bytes(), &plan).map_err(|_| "refused")?;
+    for (v, t, wanted) in [
+        (0, 1, Some((49, 6))),
+        (0, 50, Some((100, u32::MAX))),
+        (1, 5, Some((100, 6))),
+        (1, 7, Some((100, 7))),
+        (2, 101, Some((u32::MAX, u32::MAX))),
+    ] {
+        assert_eq!(rt; node_until(&plan, &script, v, t), wanted, "node {v} in {t}");
+    }
+    for (from, to, t, wanted) in [
+        (0, 1, 1, Some(2)),
+        (0, 1, 3, Some(3)),
+        (1, 2, 5, Some(99)),
+        (1, 2, 100, Some(100)),
+    ] {
+        let until = beacon_until(&plan, &script, from, to, t);
+        assert_eq!(rt; until, wanted, "from {from} to {to} in {t}");
+    }
+    Ok(())
+}
+
 #[test]
 fn a_steady_script_has_the_defaults(rt: HostRuntime) -> Result<(), Fail> {
     let alloc = rt.alloc();
@@ -285,6 +336,7 @@ fn a_steady_script_has_the_defaults(rt: HostRuntime) -> Result<(), Fail> {
     text.delay_min = 0;
     let plan = planned(alloc, &text)?;
     let script = Script::steady(alloc, 10, &plan).map_err(|_| "refused")?;
+    scripts_are_within();
     assert_eq!(rt; script.quanta(), 10);
     assert_eq!(rt; node_in(&plan, &script, 1, 10), Some((10_000, 100)));
     assert_eq!(rt; beacon_in(&plan, &script, 1, 0, 1), Some((1, false)));

@@ -1,8 +1,9 @@
-use Rattle.std.proofs.Common.{rules, ℕ, List, ◌≡◌, ◌<◌, ◌≤◌, ◌∙◌, ap, arith, length, slice_index, true}
+use Rattle.std.proofs.Common.{rules, ℕ, List, ◌≡◌, ◌<◌, ◌≤◌, ◌∙◌, ap, arith, length, slice_index, subst, true}
 use Rattle.std.specs.Result.{is_ok}
 use Rattle.gs_topo.specs.Graph.{Graph, neighbours_of}
 use Rattle.gs_plan.specs.Plans.{text_of}
 use Rattle.gs_plan.specs.Shapes.{graph_of_text}
+use Rattle.gs_script.specs.Kept.{HasWays}
 use Rattle.gs_script.proofs.Keeping.{few_neighbours, ways-more}
 use Rattle.gs_script.proofs.kept.ways_from.Goals as goal
 
@@ -25,4 +26,14 @@ loop-k-preserved c =
     let here : w ≡ slice_index (neighbours_of g c.args.v) k = ap (λ (xs : List ℕ). slice_index xs k) is in
     let good : is_ok c.push.result ≡ true = search rules in
     let items = rw good at c.push.ensures.items in
-    rw (items, c.in_ok-way_to.ensures) (ways-more t c.args.lines.now c.args.v k w c.loop-k.index.items c.loop-k.ways.items inside here c.loop-k.invariant)
+    rw items (ways-more t c.args.lines.now c.args.v k w c.loop-k.index.items c.loop-k.items.items _ inside here c.in_ok-way_to.ensures c.loop-k.invariant)
+
+pub returns : goal.returns
+returns c =
+    let t = text_of c.args.plan.now in
+    let g = graph_of_text t in
+    let is : c.neighbours-neighbours.result.now ≡ neighbours_of g c.args.v = c.neighbours-neighbours.ensures ∙ ap (λ (x : Graph). neighbours_of x c.args.v) c.graph.ensures in
+    let over : length (neighbours_of g c.args.v) ≤ c.loop-k.k = rw is at c.loop-k-test.false in
+    let most : c.loop-k.k ≤ length (neighbours_of g c.args.v) = rw is at c.loop-k.auto.k-end in
+    let all : c.loop-k.k ≡ length (neighbours_of g c.args.v) = omega (arith, over, most) in
+    subst (λ (n : ℕ). HasWays t c.args.lines.now c.args.v n c.loop-k.index.items c.loop-k.items.items) all c.loop-k.invariant

@@ -3,4 +3,4 @@ use Rattle.gs_script.specs.Kept.{HasWays}
 use Rattle.gs_script.proofs.kept.ways_from.Given as goal
 
 abbrev pub invariant-loop-k : goal.invariant-loop-k
-invariant-loop-k l = HasWays (text_of l.plan) l.lines l.v l.k l.index.items l.ways.items
+invariant-loop-k l = HasWays (text_of l.plan) l.lines l.v l.k l.index.items l.items.items

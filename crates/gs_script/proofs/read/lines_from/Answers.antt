@@ -3,7 +3,7 @@ use Rattle.std.specs.Result.{is_ok}
 use Rattle.std.proofs.lemmas.List.Elements.{All-push}
 use Rattle.csv.specs.Records.{Row, fields_of}
 use Rattle.gs_plan.specs.Plans.{text_of}
-use Rattle.gs_script.specs.Kept.{Fits}
+use Rattle.gs_script.specs.Kept.{Fits, IsSpan}
 use Rattle.gs_script.specs.Reading.{line_at}
 use Rattle.gs_script.proofs.Folded.{lines-more}
 use Rattle.gs_script.proofs.read.lines_from.Goals as goal
@@ -23,5 +23,6 @@ loop-i-preserved c =
     rw (items, shift) (record {
       read = c.loop-i.invariant.read ∙ lines-more t c.args.quanta (i + 2) i rows row c.loop-i.lines.items c.in_ok-line.line there read;
       fits = All-push (Fits t) c.loop-i.lines.items c.in_ok-line.line c.loop-i.invariant.fits c.in_ok-line.ensures.fits;
+      spans = All-push (λ x. IsSpan x.span) c.loop-i.lines.items c.in_ok-line.line c.loop-i.invariant.spans c.in_ok-line.ensures.span;
       few = (let few = c.loop-i.invariant.few in omega (arith, few, length-append c.loop-i.lines.items (c.in_ok-line.line ∷ [])));
     })

@@ -3,7 +3,7 @@ use Rattle.std.specs.Result.{is_ok}
 use Rattle.std.proofs.lemmas.List.{map-append, append-nil}
 use Rattle.csv.specs.Reading.{default_config, records_from}
 use Rattle.csv.specs.Records.{fields_of}
-use Rattle.gs_script.proofs.RecordsRead.{records-end, records-more}
+use Rattle.gs_script.proofs.RecordsRead.{is_memory, records-end, records-more}
 use Rattle.gs_script.proofs.rows.first_rows.Goals as goal
 
 abbrev known : Bor (List ℕ) → Option (List ℕ)
@@ -31,6 +31,7 @@ loop-i-preserved c =
       m.1,
       inv.5 ∙ rw (left, m.2, items, map-append fields_of c.loop-i.rows.items (c.read_byte_record.new.row ∷ []), append_assoc (map fields_of c.loop-i.rows.items) (fields_of c.read_byte_record.new.row ∷ []) (records_from default_config (4097 - (c.loop-i.i + 1)) c.read_byte_record.new.self.state m.0)) refl,
       (let more : length c.push.new.self.items ≡ length (c.loop-i.rows.items ++ c.read_byte_record.new.row ∷ []) = ap length items in omega (arith, more, length-append c.loop-i.rows.items (c.read_byte_record.new.row ∷ []), inv.6)),
+      c.in-Ok.ensures.flexible ∙ inv.7,
     )
 
 pub returns-clause-rows : goal.returns-clause-rows
@@ -39,3 +40,8 @@ returns-clause-rows c =
     let inv = c.loop-i.invariant in
     let none : 4097 - c.loop-i.i ≡ 0 = omega arith in
     sym (inv.5 ∙ rw none (append-nil (map fields_of c.loop-i.rows.items)))
+
+pub refusal-requires : goal.refusal-requires
+refusal-requires c =
+    let inv = c.loop-i.invariant in
+    is_memory known c.loop-i.rdr c.read_byte_record.new.self _ inv.7 (c.in-Err.ensures.why inv.1)

@@ -1,6 +1,5 @@
-use Rattle.std.proofs.Common.{◌∙◌, arith}
+use Rattle.std.proofs.Common.{arith}
 use Rattle.gs_plan.specs.Shapes.{graph_of_text}
-use Rattle.gs_script.specs.Kept.{node_of}
 use Rattle.gs_script.proofs.Keeping.{node_at}
 use Rattle.gs_script.proofs.script.Script.node.Goals as goal
 
@@ -8,12 +7,12 @@ pub index-requires : goal.index-requires
 index-requires c =
     let s = c.self.inside in
     let inside = rw (← c.self.view_is) at c.requires in
-    let there = (node_at s.lines.items (graph_of_text s.text).nodes c.args.v s.nodes.items (node_of s.lines.items c.args.v) c.self.invariant.nodes inside).0 in
-    omega (arith, there, s.nodes.ok.0)
+    let count = c.self.invariant.nodes.count in
+    omega (arith, count, inside, s.nodes.ok.0)
 
 pub returns : goal.returns
 returns c =
     let s = c.self.inside in
     let inside = rw (← c.self.view_is) at c.requires in
-    let is = (node_at s.lines.items (graph_of_text s.text).nodes c.args.v s.nodes.items c.index.result.now c.self.invariant.nodes inside).1 in
-    rw (← c.self.view_is) (c.index.ensures ∙ is)
+    let node = (node_at s.text s.lines.items (graph_of_text s.text).nodes c.args.v s.nodes.items c.index.result.now c.self.invariant.nodes inside).1 in
+    rw (← c.self.view_is) (rw (← c.index.ensures) at node)

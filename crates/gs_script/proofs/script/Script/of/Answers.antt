@@ -8,8 +8,8 @@ invariant_of-result c =
     let script = script_within (text_of p) c.args.quanta c.args.lines.items (plan_bounds p) c.requires.fits c.requires.small in
     rw (c.in_ok-text.ensures, c.text.ensures) (record {
       script = script;
-      nodes = rw (← c.deref.ensures.value) c.in_ok-nodes.ensures.nodes;
-      senders = rw (← c.deref.ensures.value) c.in_ok-nodes.ensures.senders;
+      star = rw (← c.deref.ensures.value) c.in_ok-star.ensures;
+      nodes = rw (← c.deref-2.ensures.value) c.in_ok-nodes.ensures;
     })
 
 pub returns-clause-within : goal.returns-clause-within
