@@ -1,2 +1,4 @@
 pub mod Refusing
+pub mod Admitting
 pub mod Replaying
+pub mod Quieting

@@ -1,3 +1,4 @@
+-- What keeps a node from a beacon.
 use Rattle.std.proofs.Common.{◌≡◌, ℕ, ◌==◌, true, refl, Some}
 use Rattle.gs_units.specs.declared.params.NodeParams.{NodeParams}
 use Rattle.gs_beacon.specs.declared.beacon.Beacon.{Beacon}

@@ -1,3 +1,4 @@
+-- A replay is made one event at a time.
 use Rattle.std.proofs.Common.{◌≡◌, ◌∙◌, ap, refl, ℕ, ◌+◌, arith, List, [], ◌∷◌, ◌++◌, length, Option, Some, None}
 use Rattle.gs_core.specs.Node.{Node}
 use Rattle.gs_core.specs.Steps.{Reply, Replayed, Whole, Stopped, fault_of, after, reply_of, answering, unless_fault, replay}

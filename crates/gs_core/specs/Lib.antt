@@ -4,3 +4,4 @@ pub mod Replays
 pub mod State
 pub mod Seen
 pub mod Faults
+pub mod Quiet

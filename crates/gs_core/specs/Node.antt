@@ -1,3 +1,4 @@
+-- The rules of a node, over plain data: what it keeps, what that says of clocks, and how an event changes it.
 use Rattle.std.specs.Prelude.{ℕ, ◌+◌, ◌-◌, Bool, nat_eq, nat_le, if◌then◌else◌, Option, Some, None, List, map, slice_index_or, slice_set}
 use Rattle.std.specs.List.{zip, position}
 use Rattle.gs_units.specs.Rates.{steer_of}

@@ -1,4 +1,5 @@
-use Rattle.std.specs.Prelude.{◌≡◌, ◌^◌, ◌<◌, length}
+-- For private functions and proofs: how the fields of a core are seen.
+use Rattle.std.specs.Prelude.{◌≡◌, length}
 use Rattle.gs_units.specs.Params.{AreValid}
 use Rattle.gs_core.specs.Node.{Node}
 use Rattle.gs_core.specs.State.{State, IsNode}
@@ -21,9 +22,8 @@ node_of a = record {
 abbrev pub state_of : Inside → State
 state_of a = record { params = a.params; node = node_of a }
 
--- what is true of the fields: there is room for each offset, and places fit their type
+-- what is true of the fields: there is room for each offset
 pub record IsInside (a : Inside) : Type 0 where
   pub valid : AreValid a.params
-  pub few : length a.params.links < 2 ^ 32
   pub runs : IsNode a.params (node_of a)
   pub room : length a.offsets.items ≡ length a.params.links

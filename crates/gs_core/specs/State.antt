@@ -1,11 +1,16 @@
-use Rattle.std.specs.Prelude.{◌≡◌, ℕ, ◌+◌, ◌-◌, ◌^◌, ◌<◌, ◌≤◌, ◌⊎◌, Option, Some, None, length, All}
+-- A core as contracts see it, and what a call does to it.
+use Rattle.std.specs.Prelude.{◌≡◌, ℕ, ◌^◌, ◌<◌, ◌≤◌, Option, Some, None, IfSome, ⊤, length, All}
 use Rattle.gs_units.specs.Params.{AreValid}
 use Rattle.gs_units.specs.declared.params.NodeParams.{NodeParams}
+use Rattle.gs_beacon.specs.Beacons.{IsBeacon}
 use Rattle.gs_beacon.specs.declared.beacon.Beacon.{Beacon}
 use Rattle.gs_estimate.specs.declared.slots.Heard.{Heard}
-use Rattle.gs_core.specs.Node.{Node, clock_of, maximum_of, link_at, ticked, delivered}
-use Rattle.gs_core.specs.Steps.{tick_fault, tick_reply, deliver_fault, deliver_reply}
+use Rattle.gs_core.specs.Node.{Node, ticked, delivered}
+use Rattle.gs_core.specs.Steps.{Reply, tick_fault, tick_reply, deliver_fault, deliver_reply, fault_of, after, reply_of}
+use Rattle.gs_core.specs.declared.event.NodeEvent.{NodeEvent}
+use Rattle.gs_core.specs.declared.event.NodeEvent.TheVariants.{Tick, Deliver}
 use Rattle.gs_core.specs.declared.reply.CoreFault.{CoreFault}
+use Rattle.gs_core.specs.declared.reply.Reply.TheVariants as reply
 use Rattle.gs_core.specs.declared.reply.Ticked.{Ticked}
 
 -- a core as contracts see it: what its node was told, and what it keeps
@@ -42,26 +47,23 @@ pub record Delivers (old new : State) (b : Beacon) (now : ℕ) (reply : Heard) :
   pub answer : reply ≡ deliver_reply old.params old.node b
   pub state : new ≡ record old { node = delivered old.params old.node b now }
 
+-- the core took an event and answered so
+pub record Takes (old new : State) (e : NodeEvent) (reply : Reply) : Type 0 where
+  pub allowed : fault_of old.params old.node e ≡ None
+  pub answer : reply ≡ reply_of old.params old.node e
+  pub state : new ≡ record old { node = after old.params old.node e }
+
 -- the core refused what has this fault, and is as it was
 pub record Refuses (old new : State) (expected : Option CoreFault) (fault : CoreFault) : Type 0 where
   pub cause : expected ≡ Some fault
   pub unchanged : new ≡ old
 
--- what an event may go on with once its reading is admitted
-pub record MayRead (s : State) (now : ℕ) : Type 0 where
-  pub later : s.node.last ≤ now
-  pub reading : now < 2 ^ 62
-  pub clock : clock_of s.params.rate s.node now < 2 ^ 62
-  pub maximum : maximum_of s.params.rate s.node now < 2 ^ 62
+-- a beacon that comes with the event is one that a node may send
+abbrev pub CarriesBeacon : NodeEvent → Type 0
+CarriesBeacon (Tick now) = ⊤
+CarriesBeacon (Deliver now b) = IsBeacon b
 
--- what a tick may go on with once it is admitted
-pub record MayTick (s : State) (now : ℕ) : Type 0 where
-  pub read : MayRead s now
-  pub sequence : (s.node.seq < 2 ^ 64 - 1) ⊎ (s.node.ticks + 1 < s.params.every)
-
--- what a delivery over the link at place i may go on with once it is admitted
-pub record MayHear (s : State) (b : Beacon) (now i : ℕ) : Type 0 where
-  pub read : MayRead s now
-  pub place : i < length s.params.links
-  pub value : b.l + (link_at s.params i).comp < 2 ^ 62
-  pub maximum : b.m + (link_at s.params i).jump < 2 ^ 62
+-- so is one that the reply gives
+abbrev pub GivesBeacon : Reply → Type 0
+GivesBeacon (reply.Ticked t) = IfSome t.beacon IsBeacon
+GivesBeacon (reply.Heard how) = ⊤

@@ -1,3 +1,4 @@
+-- Rules 7 and 8 as steps: what keeps a node from an event, what it answers, and the replay of many events.
 use Rattle.std.specs.Prelude.{ℕ, ◌+◌, ◌-◌, ◌^◌, ◌==◌, ◌||◌, ◌&&◌, not, Bool, false, nat_lt, nat_le, if◌then◌else◌, Option, Some, None, is_none, List, [], ◌∷◌}
 use Rattle.std.specs.Option.{option_or}
 use Rattle.gs_units.specs.declared.params.NodeParams.{NodeParams}
@@ -10,7 +11,9 @@ use Rattle.gs_core.specs.declared.event.NodeEvent.{NodeEvent}
 use Rattle.gs_core.specs.declared.event.NodeEvent.TheVariants.{Tick, Deliver}
 use Rattle.gs_core.specs.declared.reply.CoreFault.{CoreFault}
 use Rattle.gs_core.specs.declared.reply.CoreFault.TheVariants.{Cluster, Stranger, Backward, Far, Ahead}
+use Rattle.gs_core.specs.declared.reply.Reply.TheVariants as reply
 use Rattle.gs_core.specs.declared.reply.Ticked.{Ticked}
+pub use Rattle.gs_core.specs.declared.reply.Reply.{Reply}
 
 -- a value is beyond the end of all clocks
 abbrev pub is_end : ℕ → Bool
@@ -75,13 +78,9 @@ after p n (Tick now) = ticked p n now
 after p n (Deliver now b) = delivered p n b now
 
 -- what an event answers that is not refused
-pub data Reply : Type 0 where
-  OfTick : Ticked → Reply
-  OfDelivery : Heard → Reply
-
 abbrev pub reply_of : NodeParams → Node → NodeEvent → Reply
-reply_of p n (Tick now) = OfTick (tick_reply p n now)
-reply_of p n (Deliver now b) = OfDelivery (deliver_reply p n b)
+reply_of p n (Tick now) = reply.Ticked (tick_reply p n now)
+reply_of p n (Deliver now b) = reply.Heard (deliver_reply p n b)
 
 -- the node after all events with all replies, or the place of the first event that is refused and why
 pub data Replayed : Type 0 where

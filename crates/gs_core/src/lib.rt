@@ -7,11 +7,12 @@ pub use event::{Event, Incs, NodeEvent};
 pub use gs_estimate::Heard;
 pub use laws::replay_laws;
 pub use node::Core;
-pub use reply::{CoreFault, Ticked};
+pub use reply::{CoreFault, Reply, Ticked};
 
 mod event;
 mod laws;
 mod node;
+mod quiet;
 mod reply;
 #[cfg(test)]
 mod tests;

@@ -1,17 +1,19 @@
-ghost use Rattle.std.specs.Prelude.{◌≡◌, ◌+◌, ◌<◌, ◌≤◌, ◌^◌, length, ◌||◌, nat_eq, nat_le, IfOk, IfErr, IfSome, OnOk, Ok, Err, Some, None};
-ghost use Rattle.std.specs.List.{position, zip};
+ghost use Rattle.std.specs.Prelude.{◌≡◌, ◌+◌, ◌<◌, ◌≤◌, length, ◌||◌, nat_eq, nat_le, IfOk, IfErr, IfSome, OnOk, Ok, Err, Some, None};
+ghost use Rattle.std.specs.List.{position};
 ghost use Rattle.gs_units.specs.Params.{AreValid, IsSound};
 ghost use Rattle.gs_beacon.specs.Beacons.{IsBeacon};
-ghost use Rattle.gs_estimate.specs.Entries.{answer_of, entry_at};
-ghost use Rattle.gs_core.specs.Node.{clock_of, maximum_of, started, link_place, link_at, ticked, heard};
-ghost use Rattle.gs_core.specs.Steps.{is_end, reading_fault, tick_fault, tick_reply, deliver_fault};
-ghost use Rattle.gs_core.specs.State.{IsState, Ticks, Delivers, Refuses, MayRead, MayTick, MayHear};
+ghost use Rattle.gs_estimate.specs.Entries.{entry_at};
+ghost use Rattle.gs_core.specs.Node.{clock_of, maximum_of, decided_mode, started, link_place};
+ghost use Rattle.gs_core.specs.Steps.{is_end, reading_fault, tick_fault, deliver_fault, fault_of};
+ghost use Rattle.gs_core.specs.State.{IsState, Ticks, Delivers, Takes, Refuses, CarriesBeacon, GivesBeacon};
 
-use crate::reply::{CoreFault, Ticked};
+use crate::event::NodeEvent;
+use crate::quiet::is_quiet;
+use crate::reply::{CoreFault, Reply, Ticked};
 use gs_beacon::Beacon;
 use gs_estimate::{Heard, Slots};
 use gs_maximum::Max;
-use gs_steer::decide;
+use gs_steer::{decide, follow_maximum};
 use gs_units::{END, Link, Mode, NodeParams};
 use std::alloc::{AllocError, Global};
 use std::marker::Model;
@@ -52,10 +54,7 @@ impl Core {
         requires clock { l0 < END }
         ensures { IfOk result (λ core. core ≡ record { params = params; node = started params hw l0 }) }
     {
-        // No memory holds 2^32 links.
-        let Ok(count) = u32::try_from(params.links.as_slice().len()) else {
-            return Err(AllocError);
-        };
+        let count = params.links.as_slice().len() as u32;
         let slots = Slots::new(alloc, count, l0, hw)?;
         let offsets = vec![in alloc; 0; count as usize]?;
         Ok(Core {
@@ -104,6 +103,14 @@ impl Core {
         self.mode
     }
 
+    /// The sequence of the newest beacon that was heard over the link at `place`, or 0 before the first.
+    pub fn newest(&self, place: u32) -> u64
+        requires { place < length self.now.params.links }
+        ensures { result ≡ (entry_at self.now.node.entries place).seq }
+    {
+        self.slots.entry(place).seq
+    }
+
     /// What the node was told before it ran.
     pub fn params(&self) -> &NodeParams
         ensures { result.now ≡ self.now.params }
@@ -126,6 +133,20 @@ impl Core {
         self.last = other.last;
     }
 
+    /// The next event of the node: a tick, or a beacon that comes. A core that refuses it is as it was.
+    pub fn step(&mut self, event: &NodeEvent) -> Result<Reply, CoreFault>
+        requires { CarriesBeacon event.now }
+        ensures ok { IfOk result (Takes self.old self.new event.now) }
+        ensures beacon { IfOk result GivesBeacon }
+        ensures err { IfErr result
+            (Refuses self.old self.new (fault_of self.old.params self.old.node event.now)) }
+    {
+        match event {
+            NodeEvent::Tick { hw } => Ok(Reply::Ticked(self.tick(*hw)?)),
+            NodeEvent::Deliver { hw, beacon } => Ok(Reply::Heard(self.deliver(beacon, *hw)?)),
+        }
+    }
+
     /// A tick at the reading `now`: decides the mode, and gives a beacon where one is due. A core that
     /// refuses it is as it was. See `docs/MODEL.md`, rule 7.
     pub fn tick(&mut self, now: u64) -> Result<Ticked, CoreFault>
@@ -137,67 +158,16 @@ impl Core {
         Ok(self.take_tick(now))
     }
 
-    /// A beacon comes at the reading `now`, and is taken where it is newer than all before of its sender.
-    /// A core that refuses it is as it was. See `docs/MODEL.md`, rule 8.
-    pub fn deliver(&mut self, beacon: &Beacon, now: u64) -> Result<Heard, CoreFault>
-        requires { IsBeacon beacon.now }
-        ensures ok { IfOk result (Delivers self.old self.new beacon.now now) }
-        ensures err { IfErr result
-            (Refuses self.old self.new (deliver_fault self.old.params self.old.node beacon.now now)) }
-    {
-        let i = self.admit(beacon, now)?;
-        Ok(self.hear(i, beacon, now))
-    }
-
-    /// Why a reading is refused, whatever comes at it.
-    fn admit_reading(&self, now: u64) -> Result<(), CoreFault>
-        ensures ok { OnOk result (reading_fault self.now.params self.now.node now ≡ None) }
-        ensures may { OnOk result (MayRead self.now now) }
-        ensures err { IfErr result (λ fault. reading_fault self.now.params self.now.node now ≡ Some fault) }
-    {
-        if now < self.last {
-            return Err(CoreFault::Backward {
-                last: self.last,
-                now,
-            });
-        }
-        if now >= END || self.clock(now) >= END || self.maximum(now) >= END {
-            return Err(CoreFault::Far);
-        }
-        Ok(())
-    }
-
-    /// Why a tick is refused.
-    fn admit_tick(&self, now: u64) -> Result<(), CoreFault>
-        ensures ok { OnOk result (tick_fault self.now.params self.now.node now ≡ None) }
-        ensures may { OnOk result (MayTick self.now now) }
-        ensures err { IfErr result (λ fault. tick_fault self.now.params self.now.node now ≡ Some fault) }
-    {
-        self.admit_reading(now)?;
-        if is_due(self.params.every, self.ticks) && self.seq == u64::MAX {
-            return Err(CoreFault::Far);
-        }
-        Ok(())
-    }
-
-    /// Takes a tick that was admitted.
-    fn take_tick(&mut self, now: u64) -> Ticked
-        requires { MayTick self.old now }
-        ensures answer { result ≡ tick_reply self.old.params self.old.node now }
+    /// The tick at the reading `now`, where it is known to have no fault.
+    pub fn take_tick(&mut self, now: u64) -> Ticked
+        requires { tick_fault self.old.params self.old.node now ≡ None }
+        ensures ticks { Ticks self.old self.new now result }
         ensures beacon { IfSome result.beacon IsBeacon }
-        ensures state { self.new ≡ record self.old { node = ticked self.old.params self.old.node now } }
     {
         let l = self.clock(now);
         let m = self.maximum(now);
         let due = is_due(self.params.every, self.ticks);
-        self.slots.write_offsets(now, l, &mut self.offsets);
-        let mode = decide(
-            self.params.links.as_slice(),
-            self.params.iota,
-            &self.offsets,
-            m,
-            l,
-        );
+        let mode = self.decide(now, l, m);
         self.l = l;
         self.at = now;
         self.mode = mode;
@@ -219,12 +189,87 @@ impl Core {
         Ticked { l, m, mode, beacon }
     }
 
+    /// A beacon comes at the reading `now`, and is taken where it is newer than all before of its sender.
+    /// A core that refuses it is as it was. See `docs/MODEL.md`, rule 8.
+    pub fn deliver(&mut self, beacon: &Beacon, now: u64) -> Result<Heard, CoreFault>
+        requires { IsBeacon beacon.now }
+        ensures ok { IfOk result (Delivers self.old self.new beacon.now now) }
+        ensures err { IfErr result
+            (Refuses self.old self.new (deliver_fault self.old.params self.old.node beacon.now now)) }
+    {
+        let place = self.admit_beacon(beacon, now)?;
+        Ok(self.take_beacon(place, beacon, now))
+    }
+
+    /// Takes a beacon over the link at `place`, which is that to its sender, at the reading `now`, where
+    /// it is known to have no fault.
+    pub fn take_beacon(&mut self, place: u32, beacon: &Beacon, now: u64) -> Heard
+        requires valid { IsBeacon beacon.now }
+        requires place { link_place self.old.params beacon.now.sender ≡ Some place }
+        requires no_fault { deliver_fault self.old.params self.old.node beacon.now now ≡ None }
+        ensures { Delivers self.old self.new beacon.now now result }
+    {
+        let link = self.params.links.as_slice()[place as usize];
+        let answer = self
+            .slots
+            .hear(place, beacon.seq, beacon.l + link.comp, now);
+        if answer == Heard::Fresh {
+            self.max.hear(&self.params.rate, beacon.m + link.jump, now);
+        }
+        self.last = now;
+        answer
+    }
+
+    /// The mode that a tick decides at the reading `now`, where the clock is `l` and the maximum `m`.
+    fn decide(&mut self, now: u64, l: u64, m: u64) -> Mode
+        requires no_fault { tick_fault self.old.params self.old.node now ≡ None }
+        requires clock { l ≡ clock_of self.old.params.rate self.old.node now }
+        requires maximum { m ≡ maximum_of self.old.params.rate self.old.node now }
+        ensures mode { result ≡ decided_mode self.old.params self.old.node now }
+        ensures unchanged { self.new ≡ self.old }
+    {
+        let links = self.params.links.as_slice();
+        if is_quiet(links, self.slots.as_slice(), now, l) {
+            return follow_maximum(self.params.iota, m, l);
+        }
+        self.slots.write_offsets(now, l, &mut self.offsets);
+        decide(links, self.params.iota, &self.offsets, m, l)
+    }
+
+    /// Why a reading is refused, whatever comes at it.
+    fn admit_reading(&self, now: u64) -> Result<(), CoreFault>
+        ensures ok { OnOk result (reading_fault self.now.params self.now.node now ≡ None) }
+        ensures err { IfErr result (λ fault. reading_fault self.now.params self.now.node now ≡ Some fault) }
+    {
+        if now < self.last {
+            return Err(CoreFault::Backward {
+                last: self.last,
+                now,
+            });
+        }
+        if now >= END || self.clock(now) >= END || self.maximum(now) >= END {
+            return Err(CoreFault::Far);
+        }
+        Ok(())
+    }
+
+    /// Why a tick is refused.
+    fn admit_tick(&self, now: u64) -> Result<(), CoreFault>
+        ensures ok { OnOk result (tick_fault self.now.params self.now.node now ≡ None) }
+        ensures err { IfErr result (λ fault. tick_fault self.now.params self.now.node now ≡ Some fault) }
+    {
+        self.admit_reading(now)?;
+        if is_due(self.params.every, self.ticks) && self.seq == u64::MAX {
+            return Err(CoreFault::Far);
+        }
+        Ok(())
+    }
+
     /// Why a beacon is refused, or the place of its sender's link.
-    fn admit(&self, beacon: &Beacon, now: u64) -> Result<u32, CoreFault>
+    fn admit_beacon(&self, beacon: &Beacon, now: u64) -> Result<u32, CoreFault>
         requires { IsBeacon beacon.now }
         ensures ok { OnOk result (deliver_fault self.now.params self.now.node beacon.now now ≡ None) }
         ensures place { IfOk result (λ i. link_place self.now.params beacon.now.sender ≡ Some i) }
-        ensures may { IfOk result (MayHear self.now beacon.now now) }
         ensures err { IfErr result (λ fault. deliver_fault self.now.params self.now.node beacon.now now ≡ Some fault) }
     {
         if beacon.cluster != self.params.cluster {
@@ -239,23 +284,6 @@ impl Core {
             return Err(CoreFault::Ahead);
         }
         Ok(i as u32)
-    }
-
-    /// Takes a beacon that was admitted, over the link at place `i`.
-    fn hear(&mut self, i: u32, beacon: &Beacon, now: u64) -> Heard
-        requires { MayHear self.old beacon.now now i }
-        ensures answer { result ≡ answer_of (entry_at self.old.node.entries i) beacon.now.seq }
-        ensures state { self.new ≡ record self.old {
-          node = heard self.old.params.rate (link_at self.old.params i) self.old.node i beacon.now now;
-        } }
-    {
-        let link = self.params.links.as_slice()[i as usize];
-        let answer = self.slots.hear(i, beacon.seq, beacon.l + link.comp, now);
-        if answer == Heard::Fresh {
-            self.max.hear(&self.params.rate, beacon.m + link.jump, now);
-        }
-        self.last = now;
-        answer
     }
 }
 

@@ -1,4 +1,5 @@
 use gs_beacon::Beacon;
+use gs_estimate::Heard;
 use gs_units::Mode;
 use std::error::Error;
 use std::fmt;
@@ -14,6 +15,15 @@ pub struct Ticked {
     pub mode: Mode,
     /// What the neighbours are to be sent, where a beacon is due.
     pub beacon: Option<Beacon>,
+}
+
+/// What an event answers that is not refused.
+#[derive(Clone, Copy, Debug, PartialEq, Eq)]
+pub enum Reply {
+    /// What the tick answers.
+    Ticked(Ticked),
+    /// How the beacon was taken.
+    Heard(Heard),
 }
 
 /// The first thing that keeps a node from an event.

@@ -2,7 +2,7 @@ ghost use Rattle.std.specs.Prelude.{◌≡◌, ◌≤◌, [], ◌∷◌, IfOk};
 ghost use Rattle.gs_units.specs.Params.{AreValid};
 ghost use Rattle.gs_beacon.specs.Beacons.{IsBeacon};
 
-use crate::{Core, CoreFault, Heard, Incs, Ticked, replay_laws};
+use crate::{Core, CoreFault, Heard, Incs, NodeEvent, Reply, Ticked, replay_laws};
 use gs_beacon::Beacon;
 use gs_units::{END, Link, Links, Mode, NodeParams, Rate};
 use std::alloc::{AllocError, Global};
@@ -176,8 +176,42 @@ fn sends_a_beacon_at_every_second_tick(rt: HostRuntime) -> Result<(), Fail> {
         let told = core.tick(now)?.beacon.map(|told| told.seq);
         assert_eq!(rt; told, seq, "at {now}");
     }
-    replay_laws();
     Ok(())
+}
+
+#[test]
+fn steps_by_events(rt: HostRuntime) -> Result<(), Fail> {
+    let rate = Rate::new(10_000, 10_001, 2_000)?;
+    let mut core = Core::start(rt.alloc(), pair(rt.alloc(), rate, 2)?, 0, 0)?;
+    assert_eq!(rt; core.newest(0), 0);
+    let told = NodeEvent::Deliver {
+        hw: 1_020_000,
+        beacon: beacon(7, 1, 100_000, 0),
+    };
+    let silent = Ticked {
+        l: 1_020_000,
+        m: END - 80_001,
+        mode: Mode::Fast,
+        beacon: None,
+    };
+    let fell = CoreFault::Backward {
+        last: 1_020_000,
+        now: 999,
+    };
+    for (event, answer) in [
+        (told, Ok(Reply::Heard(Heard::Fresh))),
+        (told, Ok(Reply::Heard(Heard::Old))),
+        (NodeEvent::Tick { hw: 1_020_000 }, Ok(Reply::Ticked(silent))),
+        (NodeEvent::Tick { hw: 999 }, Err(fell)),
+    ] {
+        assert_eq!(rt; core.step(&event), answer);
+    }
+    Ok(())
+}
+
+#[test]
+fn replays_go_on_by_law(_rt: HostRuntime) {
+    replay_laws();
 }
 
 #[test]

@@ -1,3 +1,4 @@
+-- What a node keeps of its neighbours, and how far their clocks are ahead by it.
 use Rattle.std.specs.Prelude.{ℕ, ℤ, pos, ◌-ℤ◌, ◌+◌, ◌-◌, List, Bool, nat_lt, if◌then◌else◌, slice_index_or, slice_set}
 use Rattle.gs_estimate.specs.declared.slots.Entry.{Entry}
 use Rattle.gs_estimate.specs.declared.slots.Heard.{Heard}

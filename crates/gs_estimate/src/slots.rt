@@ -1,4 +1,4 @@
-ghost use Rattle.std.specs.Prelude.{◌≡◌, ◌<◌, ◌≤◌, ◌↔◌, IsTrue, IfOk, All, List, [], length, map, replicate};
+ghost use Rattle.std.specs.Prelude.{◌≡◌, ◌<◌, ◌≤◌, IfOk, All, length, map, replicate};
 ghost use Rattle.gs_units.specs.Offsets.{IsOffset};
 ghost use Rattle.gs_estimate.specs.Entries.{answer_of, entry_at, heard_at, offset_of};
 
@@ -57,18 +57,11 @@ impl Slots {
         })
     }
 
-    /// How many entries there are.
-    pub fn len(&self) -> usize
-        ensures { result ≡ length self.now }
+    /// The entries in order.
+    pub fn as_slice(&self) -> &[Entry]
+        ensures { result.now ≡ self.now }
     {
-        self.entries.len()
-    }
-
-    /// Whether there is no entry.
-    pub fn is_empty(&self) -> bool
-        ensures { IsTrue result ↔ (self.now ≡ []) }
-    {
-        self.entries.is_empty()
+        self.entries.as_slice()
     }
 
     /// The entry of the neighbour at place `i`.

@@ -1,8 +1,11 @@
-use Rattle.std.proofs.Common.{◌≡◌, ◌-◌, arith, Bool, true, false, is_some, nat_le, refl, if◌then◌else◌}
+-- Each trigger alone decides the mode, and iota where neither holds.
+use Rattle.std.proofs.Common.{◌≡◌, ℕ, ◌-◌, ◌≤◌, List, arith, Bool, true, false, is_some, nat_le, refl, if◌then◌else◌}
 use Rattle.gs_units.specs.declared.rate.Mode.TheVariants.{Slow, Fast}
-use Rattle.gs_trigger.specs.Triggers.{fast_level, slow_level}
+use Rattle.gs_trigger.specs.Sights.{Sight}
+use Rattle.gs_trigger.specs.Triggers.{FastAt, SlowAt, fast_level, slow_level}
 use Rattle.gs_trigger.proofs.Exact.{fast_level-some, slow_level-some, fast_level-none, slow_level-none}
 use Rattle.gs_trigger.proofs.Apart.{never_both}
+use Rattle.gs_steer.specs.Modes.{following_mode, mode_of}
 use Rattle.gs_steer.specs.Laws.{FastByTrigger, SlowByTrigger, FastFarBehind, SlowNearMaximum}
 
 pub fast_by_trigger : FastByTrigger
@@ -25,3 +28,8 @@ slow_near_maximum iota m l sights none near = rw (fast_level-none sights none) (
   pick true b e = refl
   pick false false e = refl
   pick false true e = absurd (cc)
+
+-- where neither trigger holds the maximum decides
+pub following : (iota m l : ℕ) (sights : List Sight) → ((s : ℕ) → 1 ≤ s → ¬ FastAt sights s) → ((s : ℕ) → 1 ≤ s → ¬ SlowAt sights s)
+    → mode_of iota sights m l ≡ following_mode iota m l
+following iota m l sights fast slow = rw (fast_level-none sights fast, slow_level-none sights slow) refl

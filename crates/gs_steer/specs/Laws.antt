@@ -1,3 +1,4 @@
+-- The laws of the mode.
 use Rattle.std.specs.Prelude.{◌≡◌, ℕ, ◌-◌, ◌<◌, ◌≤◌, List}
 use Rattle.gs_units.specs.declared.rate.Mode.TheVariants.{Slow, Fast}
 use Rattle.gs_trigger.specs.Sights.{Sight, HaveMargins}

@@ -2,7 +2,7 @@
 #![tactic(auto)]
 
 pub use laws::mode_laws;
-pub use steer::decide;
+pub use steer::{decide, follow_maximum};
 
 mod laws;
 mod steer;

@@ -4,7 +4,7 @@ ghost use Rattle.gs_units.specs.declared.rate.Mode.TheVariants.{Slow, Fast};
 ghost use Rattle.gs_units.specs.Offsets.{IsOffset};
 ghost use Rattle.gs_units.specs.Params.{HasMargin};
 ghost use Rattle.gs_trigger.specs.Triggers.{FastAt, SlowAt};
-ghost use Rattle.gs_steer.specs.Modes.{mode_of};
+ghost use Rattle.gs_steer.specs.Modes.{following_mode, mode_of};
 
 use gs_trigger::{fast, slow};
 use gs_units::{Link, Mode};
@@ -27,7 +27,18 @@ pub fn decide(links: &[Link], iota: u64, offsets: &[i128], m: u64, l: u64) -> Mo
         Mode::Fast
     } else if slow(links, offsets).is_some() {
         Mode::Slow
-    } else if m - l >= iota {
+    } else {
+        follow_maximum(iota, m, l)
+    }
+}
+
+/// The mode of such a node where neither trigger holds: it runs after the maximum once it is `iota`
+/// behind.
+pub fn follow_maximum(iota: u64, m: u64, l: u64) -> Mode
+    requires ahead { l ≤ m }
+    ensures { result ≡ following_mode iota m l }
+{
+    if m - l >= iota {
         Mode::Fast
     } else {
         Mode::Slow

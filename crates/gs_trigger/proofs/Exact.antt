@@ -1,3 +1,4 @@
+-- The least level of a trigger is what the search finds.
 use Rattle.std.proofs.Common.{◌≡◌, ℕ, ℤ, pos, negsuc, nat_abs, ◌≤ℤ◌, ◌-ℤ◌, ◌+◌, ◌-◌, ◌*◌, ◌/◌, ◌<◌, ◌≤◌, List, arith, slice_index_or, Some, None, is_some, true, ap, sum_by}
 use Rattle.std.proofs.Math.Nat.{mul-le-mul_right, add-mul, le-div_iff_mul-le}
 use Rattle.std.proofs.lemmas.Int.{ints}

@@ -1,3 +1,4 @@
+-- What a neighbour allows, by how far it leads on the side of the trigger.
 use Rattle.std.proofs.Common.{ℕ, ℤ, pos, neg_ℤ, ◌≤ℤ◌, ◌+◌, arith}
 use Rattle.std.proofs.lemmas.Int.{ints}
 use Rattle.gs_units.specs.declared.params.Link.{Link}

@@ -1,3 +1,4 @@
+-- What one pass over links and offsets finds.
 use Rattle.std.proofs.Common.{◌≡◌, ℕ, ℤ, zero, suc, ◌<◌, ◌≤◌, List, [], ◌∷◌, length, slice_index_or, All, Any, max, arith, refl, sym, subst}
 use Rattle.std.proofs.lemmas.List.Elements.{All-cons, All-head, All-tail, All-nil}
 use Rattle.std.specs.List.{zip}
@@ -11,13 +12,6 @@ pub record IsLowestBefore (trigger : Trigger) (all rest : List Sight) (s : ℕ) 
   pub first : 1 ≤ s
   pub allowed : (n : ℕ) → s ≤ n → All (Allows trigger n) rest → All (Allows trigger n) all
   pub least : (n : ℕ) → 1 ≤ n → All (Allows trigger n) all → (s ≤ n) × All (Allows trigger n) rest
-
-pub lowest_begins : (trigger : Trigger) (all : List Sight) → IsLowestBefore trigger all all 1
-lowest_begins trigger all = record {
-  first = omega arith;
-  allowed = λ n h each. each;
-  least = λ n one each. (one, each);
-}
 
 pub lowest_goes_on : (trigger : Trigger) (all : List Sight) (links ks : List Link) (offsets vs : List ℤ) (k : Link) (v : ℤ) (s from : ℕ) → links ≡ k ∷ ks → offsets ≡ v ∷ vs
     → IsLowestBefore trigger all (zip links offsets) s → ((n : ℕ) → from ≤ n → Allows trigger n (k, v)) → ((n : ℕ) → 1 ≤ n → Allows trigger n (k, v) → from ≤ n)

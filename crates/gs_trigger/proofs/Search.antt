@@ -1,3 +1,4 @@
+-- What the search for the least number finds.
 use Rattle.std.proofs.Common.{◌≡◌, ℕ, zero, suc, ◌+◌, ◌<◌, ◌≤◌, ◌⊎◌, inl, inr, arith, Bool, true, false, if◌then◌else◌, Option, Some, None, is_some, refl}
 use Rattle.gs_trigger.specs.Triggers.{least_from}
 

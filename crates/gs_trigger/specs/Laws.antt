@@ -1,3 +1,4 @@
+-- The laws of the triggers.
 use Rattle.std.specs.Prelude.{ℕ, pos, neg_ℤ, ◌≤ℤ◌, ◌≤◌, List, All}
 use Rattle.gs_trigger.specs.Sights.{Sight, HaveMargins}
 use Rattle.gs_trigger.specs.Triggers.{FastAt, SlowAt}

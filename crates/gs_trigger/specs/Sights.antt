@@ -1,3 +1,4 @@
+-- What a trigger looks at.
 use Rattle.std.specs.Prelude.{ℤ, ◌*◌, ◌<◌, List, All}
 use Rattle.gs_units.specs.declared.params.Link.{Link}
 

@@ -1,3 +1,4 @@
+-- Rules 4 and 5: when a trigger holds at a level, and its least level.
 use Rattle.std.specs.Prelude.{ℕ, zero, suc, pos, neg_ℤ, nat_abs, ◌≤ℤ◌, ◌-ℤ◌, ◌+◌, ◌-◌, ◌*◌, ◌/◌}
 use Rattle.std.specs.Prelude.{List, Bool, ◌&&◌, if◌then◌else◌, Option, Some, None, sum_by, All, Any}
 use Rattle.std.specs.Int.Signed.{le_z}

@@ -37,7 +37,8 @@ pub fn slow(links: &[Link], offsets: &[i128]) -> Option<u64>
     least_level(Trigger::Slow, links, offsets)
 }
 
-/// The least level at which the trigger holds.
+/// The least level at which the trigger holds. There is none where no neighbour is far enough away for
+/// the first, since a higher level asks for more.
 fn least_level(trigger: Trigger, links: &[Link], offsets: &[i128]) -> Option<u64>
     requires links { All HasMargin links.now }
     requires offsets { All IsOffset offsets.now }
@@ -46,6 +47,9 @@ fn least_level(trigger: Trigger, links: &[Link], offsets: &[i128]) -> Option<u64
     ensures least { IfSome result (λ s. (t : ℕ) → 1 ≤ t → TriggerAt trigger (zip links.now offsets.now) t → s ≤ t) }
     ensures none { IfNone result ((s : ℕ) → 1 ≤ s → ¬ TriggerAt trigger (zip links.now offsets.now) s) }
 {
+    if !some_reach(trigger, links, offsets, 1) {
+        return None;
+    }
     let s = lowest_allowed(trigger, links, offsets);
     if some_reach(trigger, links, offsets, s) {
         Some(s)

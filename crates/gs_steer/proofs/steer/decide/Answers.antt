@@ -26,12 +26,12 @@ returns-then-is_some-2-clause-far c none far =
     let rule : Slow ≡ mode_of c.args.iota (zip c.args.links.now c.args.offsets.now) c.args.m c.args.l = search rules in
     rule ∙ fast_far_behind c.args.iota c.args.m c.args.l (zip c.args.links.now c.args.offsets.now) none far
 
-pub returns-then-m-l-clause-slow : goal.returns-then-m-l-clause-slow
-returns-then-m-l-clause-slow c s one holds =
-    let rule : Fast ≡ mode_of c.args.iota (zip c.args.links.now c.args.offsets.now) c.args.m c.args.l = search rules in
-    rule ∙ slow_by_trigger c.args.iota c.args.m c.args.l s (zip c.args.links.now c.args.offsets.now) (HaveMargins-zip c.args.links.now c.args.offsets.now c.requires.links) one holds
-
-pub returns-else-m-l-clause-fast : goal.returns-else-m-l-clause-fast
-returns-else-m-l-clause-fast c s one holds =
-    let rule : Slow ≡ mode_of c.args.iota (zip c.args.links.now c.args.offsets.now) c.args.m c.args.l = search rules in
+pub returns-else-is_some-2-clause-fast : goal.returns-else-is_some-2-clause-fast
+returns-else-is_some-2-clause-fast c s one holds =
+    let rule : c.follow_maximum.result ≡ mode_of c.args.iota (zip c.args.links.now c.args.offsets.now) c.args.m c.args.l = search rules in
     rule ∙ fast_by_trigger c.args.iota c.args.m c.args.l s (zip c.args.links.now c.args.offsets.now) (HaveMargins-zip c.args.links.now c.args.offsets.now c.requires.links) one holds
+
+pub returns-else-is_some-2-clause-slow : goal.returns-else-is_some-2-clause-slow
+returns-else-is_some-2-clause-slow c s one holds =
+    let rule : c.follow_maximum.result ≡ mode_of c.args.iota (zip c.args.links.now c.args.offsets.now) c.args.m c.args.l = search rules in
+    rule ∙ slow_by_trigger c.args.iota c.args.m c.args.l s (zip c.args.links.now c.args.offsets.now) (HaveMargins-zip c.args.links.now c.args.offsets.now c.requires.links) one holds

@@ -3,7 +3,7 @@ use Rattle.std.proofs.lemmas.Result.{err_from_is_err_and}
 use Rattle.gs_core.specs.Node.{link_place}
 use Rattle.gs_core.specs.Steps.{reading_fault}
 use Rattle.gs_core.proofs.Refusing.{refused_for_reading}
-use Rattle.gs_core.proofs.node.Core.admit.Goals as goal
+use Rattle.gs_core.proofs.node.Core.admit_beacon.Goals as goal
 
 pub returns-in_err-admit_reading-clause-err : goal.returns-in_err-admit_reading-clause-err
 returns-in_err-admit_reading-clause-err c =
