@@ -1,12 +1,3 @@
-pub mod Extremes
-pub mod Quantum
-pub mod Window
-pub mod Levels
-pub mod Bounded
-pub mod Worked
-pub mod Sums
 pub mod Weights
-pub mod Greatest
-pub mod Finding
 pub mod Places
 pub mod Pairs

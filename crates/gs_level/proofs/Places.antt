@@ -11,10 +11,10 @@ use Rattle.gs_planfile.specs.declared.text.PlanText.{PlanText}
 use Rattle.gs_level.specs.declared.tally.Tally.{Tally}
 use Rattle.gs_level.specs.Reports.{first_edge, last_row, peaks_of, report_of}
 use Rattle.gs_level.specs.Running.{added, raised_global, raised_near}
-use Rattle.gs_level.specs.Skews.{edge_skew, global_skew, greatest_over, near_skew}
+use Rattle.gs_skew.specs.Skews.{edge_skew, global_skew, greatest_over, near_skew}
 use Rattle.gs_level.specs.Tallies.{tally_of}
-use Rattle.gs_level.proofs.Finding.{find_none}
-use Rattle.gs_level.proofs.Greatest.{at_most_greatest, greatest_at_most, greatest_push, has_greatest}
+use Rattle.gs_skew.proofs.Finding.{find_none}
+use Rattle.gs_skew.proofs.Greatest.{at_most_greatest, greatest_at_most, greatest_push, has_greatest}
 
 -- the place of the first row with the greatest value, where there is one
 abbrev place : {X : Type 0} → (X → ℕ) → List X → ℕ

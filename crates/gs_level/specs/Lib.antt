@@ -1,11 +1,4 @@
-pub mod Conditions
-pub mod Rows
-pub mod Laws
-pub mod Worked
-pub mod Weight
-pub mod Skews
 pub mod Peaks
-pub mod Ranges
 pub mod Reports
 pub mod Tallies
 pub mod ReportText

@@ -2,7 +2,7 @@
 use Rattle.std.specs.Prelude.{ℕ, ◌==◌, List, length, unwrap_or}
 use Rattle.std.specs.List.{find}
 use Rattle.gs_level.specs.declared.peak.Peak.{Peak}
-use Rattle.gs_level.specs.Skews.{beyond, pairs_of, potential}
+use Rattle.gs_skew.specs.Skews.{beyond, pairs_of, potential}
 
 -- the first pair with this excess at level s, (0, 0) where there is none
 abbrev pub first_pair : (ℕ → ℕ → ℕ) → List ℕ → ℕ → ℕ → ℕ × ℕ

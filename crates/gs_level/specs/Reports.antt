@@ -6,8 +6,8 @@ use Rattle.gs_planfile.specs.declared.text.PlanText.{PlanText}
 use Rattle.gs_level.specs.declared.peak.Peak.{Peak}
 use Rattle.gs_level.specs.declared.report.Report.{Report}
 use Rattle.gs_level.specs.Peaks.{peak_of}
-use Rattle.gs_level.specs.Skews.{edge_skew, global_skew, greatest_over, near_skew}
-use Rattle.gs_level.specs.Weight.{weight_in}
+use Rattle.gs_skew.specs.Skews.{edge_skew, global_skew, greatest_over, near_skew}
+use Rattle.gs_plan.specs.Weights.{weight_in}
 
 -- the place of the first row at which f is greatest
 abbrev pub first_place : (List ℕ → ℕ) → List (List ℕ) → ℕ

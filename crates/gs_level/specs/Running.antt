@@ -4,7 +4,7 @@ use Rattle.std.specs.List.{find, range_with_len}
 use Rattle.gs_topo.specs.Graph.{Graph}
 use Rattle.gs_level.specs.declared.peak.Peak.{Peak}
 use Rattle.gs_level.specs.declared.tally.Tally.{Tally}
-use Rattle.gs_level.specs.Skews.{beyond, edge_skew, global_skew, near_skew}
+use Rattle.gs_skew.specs.Skews.{beyond, edge_skew, global_skew, near_skew}
 
 -- a peak, or the excess of one more pair where that is greater
 abbrev pub raised_to : Peak → ℕ → ℕ → ℕ → Peak

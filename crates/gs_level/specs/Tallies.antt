@@ -3,7 +3,7 @@ use Rattle.std.specs.Prelude.{ℕ, List, length}
 use Rattle.gs_topo.specs.Graph.{Graph}
 use Rattle.gs_level.specs.declared.tally.Tally.{Tally}
 use Rattle.gs_level.specs.Reports.{first_edge, first_place}
-use Rattle.gs_level.specs.Skews.{global_skew, greatest_over, near_skew}
+use Rattle.gs_skew.specs.Skews.{global_skew, greatest_over, near_skew}
 
 -- the tally of these rows
 abbrev pub tally_of : Graph → List (List ℕ) → Tally

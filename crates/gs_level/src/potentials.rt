@@ -5,11 +5,11 @@ ghost use Rattle.gs_plan.specs.Plans.{text_of, graph_of};
 ghost use Rattle.gs_level.specs.Peaks.{peak_of};
 ghost use Rattle.gs_level.specs.Reports.{peaks_of};
 ghost use Rattle.gs_level.specs.Running.{pairs_from, raised};
-ghost use Rattle.gs_level.specs.Weight.{weight_in};
+ghost use Rattle.gs_plan.specs.Weights.{weight_in};
 
 use crate::peak::{Peak, Peaks};
-use crate::skew::global_skew;
 use gs_plan::Plan;
+use gs_skew::global_skew;
 use std::alloc::{AllocError, Global};
 
 /// The peak of clocks that are all within their bounds.
@@ -83,21 +83,12 @@ fn better(plan: &Plan, clocks: &[u64], s: u32, v: u32, w: u32, best: Peak) -> Pe
     if lead <= best.value {
         return best;
     }
-    let value = less(lead, s, weight(plan, v, w));
+    let value = less(lead, s, plan.weight(v, w));
     if value > best.value {
         Peak { value, v, w }
     } else {
         best
     }
-}
-
-/// The weight of two nodes.
-fn weight(plan: &Plan, v: u32, w: u32) -> u128
-    requires { (v < (graph_of plan.now).nodes) × (w < (graph_of plan.now).nodes) }
-    ensures value { result ≡ weight_in (text_of plan.now) (graph_of plan.now) v w }
-    ensures small { result < 2 ^ 70 }
-{
-    plan.weight(v, w)
 }
 
 /// A lead less `2*s` times a weight, down to 0.

@@ -2,12 +2,12 @@ ghost use Rattle.std.specs.Prelude.{◌≡◌, ◌+◌, ◌-◌, ◌<◌, ◌^�
 ghost use Rattle.gs_topo.specs.Walks.{IsGraph};
 ghost use Rattle.gs_plan.specs.Plans.{text_of, graph_of};
 ghost use Rattle.gs_level.specs.Reports.{report_of};
-ghost use Rattle.gs_level.specs.Skews.{global_skew};
+ghost use Rattle.gs_skew.specs.Skews.{global_skew};
 
 use crate::potentials::peaks;
 use crate::report::Report;
-use crate::skew::{first_edge, global_skew, near_skew};
 use gs_plan::Plan;
+use gs_skew::{first_edge, global_skew, near_skew};
 use gs_topo::Topology;
 use std::alloc::{AllocError, Global};
 

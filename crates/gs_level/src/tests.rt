@@ -1,7 +1,4 @@
-use crate::{
-    ClockRange, Peak, Peaks, Report, Tally, edges_are_named, global_skew, levels_have_a_network,
-    levels_keep_bounds, potential, potentials_are_skews, skew_between, weights_are_least_sums,
-};
+use crate::{Peak, Peaks, Report, Tally, edges_are_named, potential};
 use gs_plan::{Plan, check};
 use gs_planfile::{EdgeSpan, Spans, Version, base};
 use std::alloc::Global;
@@ -64,22 +61,8 @@ fn potentials_take_off_the_weights(rt: HostRuntime) -> Result<(), Fail> {
 }
 
 #[test]
-fn skews_are_the_greatest_differences(rt: HostRuntime) {
-    let clocks = [3, 9, 5];
-    assert_eq!(rt; (global_skew(&clocks), global_skew(&[])), (6, 0));
-    assert_eq!(rt;
-        (skew_between(&clocks, 0, 2), skew_between(&clocks, 1, 2)),
-        (2, 4)
-    );
-    let mut range = ClockRange::of(5);
-    range.add(3);
-    range.add(9);
-    assert_eq!(rt; range.width(), 6);
-    levels_keep_bounds();
-    levels_have_a_network();
-    weights_are_least_sums();
+fn laws_cost_nothing(_rt: HostRuntime) {
     edges_are_named();
-    potentials_are_skews();
 }
 
 /// The report of these rows of three clocks.

@@ -1,7 +1,7 @@
 use Rattle.std.proofs.Common.{◌≡◌, fold}
 use Rattle.gs_plan.specs.Plans.{text_of, graph_of}
 use Rattle.gs_level.specs.Running.{pairs_from, raised}
-use Rattle.gs_level.specs.Weight.{weight_in}
+use Rattle.gs_plan.specs.Weights.{weight_in}
 use Rattle.gs_level.proofs.potentials.best_from.Given as goal
 
 abbrev pub invariant-loop-w : goal.invariant-loop-w

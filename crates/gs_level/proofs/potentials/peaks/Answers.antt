@@ -3,7 +3,7 @@ use Rattle.gs_topo.proofs.Building.{map_range_more}
 use Rattle.gs_planfile.specs.declared.text.PlanText.{PlanText}
 use Rattle.gs_plan.specs.Plans.{text_of, graph_of}
 use Rattle.gs_level.specs.Peaks.{peak_of}
-use Rattle.gs_level.specs.Weight.{weight_in}
+use Rattle.gs_plan.specs.Weights.{weight_in}
 use Rattle.gs_level.proofs.potentials.peaks.Goals as goal
 
 pub loop-s-preserved : goal.loop-s-preserved

@@ -2,7 +2,7 @@ use Rattle.std.proofs.Common.{◌≡◌, map}
 use Rattle.std.specs.List.{range_with_len}
 use Rattle.gs_plan.specs.Plans.{text_of, graph_of}
 use Rattle.gs_level.specs.Peaks.{peak_of}
-use Rattle.gs_level.specs.Weight.{weight_in}
+use Rattle.gs_plan.specs.Weights.{weight_in}
 use Rattle.gs_level.proofs.potentials.peaks.Given as goal
 
 abbrev pub invariant-loop-s : goal.invariant-loop-s

@@ -1,7 +1,7 @@
 use Rattle.std.proofs.Common.{sym, ◌∙◌}
 use Rattle.gs_plan.specs.Plans.{graph_of}
 use Rattle.gs_level.proofs.Places.{tally_push}
-use Rattle.gs_level.proofs.Weights.{graph_is}
+use Rattle.gs_plan.proofs.Weights.{graph_is}
 use Rattle.gs_level.proofs.tally.Tally.add.Goals as goal
 
 pub returns-clause-value : goal.returns-clause-value

@@ -1,6 +1,6 @@
 use Rattle.std.proofs.Common.{refl}
 use Rattle.gs_level.specs.Running.{raised_near}
-use Rattle.gs_level.proofs.Greatest.{no_near_above}
+use Rattle.gs_skew.proofs.Greatest.{no_near_above}
 use Rattle.gs_level.proofs.tally.Tally.raised_near.Goals as goal
 
 pub returns-then-global-self : goal.returns-then-global-self

@@ -1,5 +1,0 @@
-use Rattle.gs_level.proofs.Greatest.{potentials_are}
-use Rattle.gs_level.proofs.laws.potentials_are_skews.Goals as goal
-
-pub returns : goal.returns
-returns c = potentials_are

@@ -1,6 +1,0 @@
-use Rattle.std.proofs.Common.{◌≡◌, take}
-use Rattle.gs_level.specs.Skews.{near_skew}
-use Rattle.gs_level.proofs.skew.near_skew.Given as goal
-
-abbrev pub invariant-loop-edge : goal.invariant-loop-edge
-invariant-loop-edge l = l.most ≡ near_skew (take l.edge-index l.topo.edges) l.clocks

@@ -1,0 +1,13 @@
+//! How far clocks are apart, and the laws of the levels: what bounds the clocks of a network keep that is
+//! steered by the fast and slow conditions. Numbers and lists of clocks alone, without a plan or a node.
+#![tactic(auto)]
+
+pub use laws::{levels_have_a_network, levels_keep_bounds, potentials_are_skews};
+pub use range::ClockRange;
+pub use skew::{first_edge, global_skew, near_skew, skew_between};
+
+mod laws;
+mod range;
+mod skew;
+#[cfg(test)]
+mod tests;
