@@ -1,0 +1,17 @@
+pub mod Net
+pub mod Nets
+pub mod Accepted
+pub mod World
+pub mod Why
+pub mod Words
+pub mod Run
+pub mod Bounds
+pub mod Budget
+pub mod Projection
+pub mod Reach
+pub mod Laws
+pub mod Told
+pub mod Fast
+pub mod RunRows
+pub mod Headline
+pub mod Refusing
