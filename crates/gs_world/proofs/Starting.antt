@@ -1,17 +1,22 @@
 -- The start of a world.
-use Rattle.std.proofs.Common.{◌≡◌, ℕ, zero, suc, ◌+◌, ◌<◌, ◌≤◌, ◌^◌, ◌∙◌, arith, ap, sym, subst, refl, inl, inr, length, length-append, List, [], ◌∷◌, ◌++◌, All, map, replicate, slice_index, slice_index_or}
+use Rattle.std.proofs.Common.{◌≡◌, ℕ, zero, suc, ◌+◌, ◌<◌, ◌≤◌, ◌^◌, ◌∙◌, arith, ap, sym, subst, refl, inl, inr, length, length-append, List, [], ◌∷◌, ◌++◌, All, filter, map, replicate, slice_index, slice_index_or}
 use Rattle.std.specs.List.{range_with_len}
 use Rattle.std.proofs.Math.Seq.{get_or-append_seam}
 use Rattle.std.proofs.lemmas.Bool.{cases_lt}
-use Rattle.std.proofs.lemmas.List.{get_or-replicate, get_or_append_left, map-append}
+use Rattle.std.proofs.lemmas.List.{get_or-map, get_or-replicate, get_or_append_left, get_or_default, length-map, map-append, same_lists}
+use Rattle.std.proofs.lemmas.List.FromFn.{get_or-map-range_with_len, length-map-range_with_len}
+use Rattle.gs_units.specs.declared.rate.Mode.TheVariants.{Slow}
+use Rattle.gs_core.specs.Node.{clock_of}
+use Rattle.gs_run.proofs.Current.{steer_zero}
 use Rattle.gs_topo.proofs.Building.{range_more}
-use Rattle.gs_world.specs.Accepted.{IsSmall}
-use Rattle.gs_world.specs.Net.{Net}
-use Rattle.gs_world.specs.Reach.{IsReachable}
-use Rattle.gs_world.specs.Seats.{IsSeat, member_of}
-use Rattle.gs_world.specs.World.{Member, World, member_at_start, world_at_start, world_at_start_each}
-use Rattle.gs_world.specs.declared.seat.Seat.{Seat}
-use Rattle.gs_world.proofs.Reaching.{start_is_reachable}
+use Rattle.gs_run.specs.Accepted.{IsSmall}
+use Rattle.gs_run.specs.Fast.{is_fast}
+use Rattle.gs_run.specs.Net.{Net}
+use Rattle.gs_run.specs.Reach.{IsReachable}
+use Rattle.gs_world.specs.Members.{IsMember, member_of}
+use Rattle.gs_run.specs.World.{Member, World, clocks_in, member_at_start, world_at_start, world_at_start_each}
+use Rattle.gs_world.specs.declared.member.Member.{Member as Seat}
+use Rattle.gs_run.proofs.Reaching.{start_is_reachable}
 
 -- one more member
 pub members_more : (f : ℕ → Member) (seats : List Seat) (s : Seat) (v : ℕ)
@@ -28,8 +33,8 @@ members_more f seats s v before here =
 
 -- one more seat
 pub seats_more : (net : Net) (seats : List Seat) (s : Seat) (v : ℕ) → length seats ≡ v
-    → ((k : ℕ) (d : Seat) → k < length seats → IsSeat net k (slice_index_or seats k d)) → IsSeat net v s
-    → (k : ℕ) (d : Seat) → k < length (seats ++ s ∷ []) → IsSeat net k (slice_index_or (seats ++ s ∷ []) k d)
+    → ((k : ℕ) (d : Seat) → k < length seats → IsMember net k (slice_index_or seats k d)) → IsMember net v s
+    → (k : ℕ) (d : Seat) → k < length (seats ++ s ∷ []) → IsMember net k (slice_index_or (seats ++ s ∷ []) k d)
 seats_more net seats s v count each here k d h = elim (cases_lt k (length seats)) [
   | inl before ↦ rw (get_or_append_left seats (s ∷ []) d k before) (each k d before)
   | inr from ↦
@@ -37,7 +42,7 @@ seats_more net seats s v count each here k d h = elim (cases_lt k (length seats)
       let last : k ≡ length seats = omega (arith, from, h, long) in
       let at : slice_index_or (seats ++ s ∷ []) k d ≡ s =
       ap (λ (j : ℕ). slice_index_or (seats ++ s ∷ []) j d) last ∙ get_or-append_seam seats s [] d in
-      subst (λ (x : Seat). IsSeat net k x) (sym at) (subst (λ (j : ℕ). IsSeat net j s) (sym (last ∙ count)) here)
+      subst (λ (x : Seat). IsMember net k x) (sym at) (subst (λ (j : ℕ). IsMember net j s) (sym (last ∙ count)) here)
 ]
 
 -- small values are those of a start
@@ -54,6 +59,28 @@ pub start_reached : (net : Net) (hw l0s : List ℕ) → length hw ≡ net.nodes 
 start_reached net hw l0s a b c d w is =
     subst (λ (x : World). IsReachable net x) (sym is)
     (start_is_reachable net (slice_index hw) (slice_index l0s) (each_small net hw l0s a b c d))
+
+-- each node starts with its clock
+pub clocks_at_start : (net : Net) (hw l0s : List ℕ) → length l0s ≡ net.nodes
+    → l0s ≡ clocks_in net (world_at_start_each net hw l0s)
+clocks_at_start net hw l0s count =
+    let f : ℕ → Member = λ v. member_at_start net v (slice_index hw v) (slice_index l0s v) in
+    let nodes : List ℕ = range_with_len 0 net.nodes in
+    let members = length-map-range_with_len f 0 net.nodes in
+    let clock : Member → ℕ = λ m. clock_of net.rate m.node m.reading in
+    same_lists l0s (map clock (map f nodes)) (count ∙ sym (length-map (map f nodes) clock ∙ members)) (λ k d h.
+    let inside : k < net.nodes = omega (arith, h, count) in
+    let z = steer_zero net.rate Slow (slice_index hw k) in
+    let here : clock (f k) ≡ slice_index l0s k = omega (arith, z) in
+    get_or_default l0s k d 0 h ∙ sym here
+    ∙ sym (get_or-map clock (map f nodes) k (f k) d (omega (arith, inside, members))
+    ∙ ap clock (get_or-map-range_with_len f 0 net.nodes k k (f k) inside (omega arith))))
+
+-- no node starts fast
+pub none_starts_fast : (net : Net) (hw clocks : ℕ → ℕ) (vs : List ℕ)
+    → length (filter (λ m. is_fast m.node.mode) (map (λ v. member_at_start net v (hw v) (clocks v)) vs)) ≡ 0
+none_starts_fast net hw clocks [] = refl
+none_starts_fast net hw clocks (v ∷ vs) = none_starts_fast net hw clocks vs
 
 -- ---- one clock for all
 

@@ -1,15 +1,15 @@
 ghost use Rattle.std.specs.Prelude.{◌≡◌, ◌<◌, map, IfErr, IfOk, OnOk, None, Some};
 ghost use Rattle.gs_topo.specs.Graph.{Adjacent};
 ghost use Rattle.gs_plan.specs.Plans.{graph_of};
-ghost use Rattle.gs_world.specs.Nets.{net_of};
-ghost use Rattle.gs_world.specs.Net.{neighbours};
+ghost use Rattle.gs_run.specs.Nets.{net_of};
+ghost use Rattle.gs_run.specs.Net.{neighbours};
 ghost use Rattle.gs_world.specs.Delays.{age_refused, delay_of};
 
-use crate::refused::Refused;
 use gs_plan::Plan;
+use gs_run::Refused;
 use std::alloc::{AllocError, Global};
 
-/// How long the beacons of an edge take, in quanta.
+/// How long beacons may take over an edge, in quanta.
 #[derive(Clone, Copy, Debug)]
 pub(crate) struct Delay {
     pub(crate) least: u32,
@@ -36,7 +36,8 @@ impl Delay {
 pub(crate) fn delays(alloc: Global, plan: &Plan, v: u32) -> Result<Vec<Delay>, AllocError>
     requires { v < (graph_of plan.now).nodes }
     ensures { IfOk result
-        (λ delays. delays.items ≡ map (delay_of (net_of plan.now) v) (neighbours (net_of plan.now) v)) }
+        (λ delays.
+        delays.items ≡ map (delay_of (net_of plan.now) v) (neighbours (net_of plan.now) v)) }
 {
     let mut delays = Vec::new(alloc);
     for x in plan.topo().neighbours(v) {

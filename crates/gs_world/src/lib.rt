@@ -3,18 +3,19 @@
 //! world".
 #![tactic(auto)]
 
-pub use laws::{ends_are_bounded, nodes_are_replayed, runs_are_bounded, runs_keep_the_budget};
-pub use plans::plans_have_numbers;
-pub use refused::Refused;
+pub use gs_run::{
+    Refused, clocks_never_fall, nodes_are_replayed, plans_have_numbers, plans_keep_bounds,
+    refusals_are_named, runs_are_bounded, runs_keep_the_budget,
+};
+pub use laws::reports_keep_bounds;
 pub use world::{MAX_QUANTA, World};
 
 mod clocks;
+mod deadlines;
 mod delay;
 mod laws;
-mod plans;
+mod member;
 mod quantum;
-mod refused;
-mod seat;
 mod sent;
 #[cfg(test)]
 mod tests;

@@ -12,7 +12,7 @@ pub(crate) struct SentBeacon {
 }
 
 impl Model for SentBeacon {
-    ghost use Rattle.gs_world.specs.World.{Sent};
+    ghost use Rattle.gs_run.specs.World.{Sent};
     ghost use Rattle.gs_beacon.specs.Beacons.{IsBeacon};
 
     ghost Value = { Sent };

@@ -1,12 +1,13 @@
 ghost use Rattle.std.specs.Prelude.{◌≡◌, ◌≢◌, ◌<◌, ◌≤◌, ◌^◌, All, IfErr, IfOk, OnErr, OnOk, Err, None, Some, IfSome, length, nat_eq, position, slice_get};
 
-use crate::clocks::{count_fast, range, write_clocks};
-use crate::quantum::{advance_seats, first_drift, first_due, first_old, first_stale};
-use crate::refused::Refused;
-use crate::seat::Seat;
+use crate::clocks::{advance_clocks, counted, range};
+use crate::deadlines::{Deadlines, oldest_heard, oldest_tick};
+use crate::member::Member;
+use crate::quantum::{advance_members, first_drift, first_due, first_old, first_stale};
 use crate::sent::SentBeacon;
 use gs_core::Event;
 use gs_plan::Plan;
+use gs_run::Refused;
 use gs_units::{END, Mode};
 use std::alloc::{AllocError, Global};
 use std::marker::Model;
@@ -21,7 +22,13 @@ pub const MAX_QUANTA: u32 = 1 << 24;
 pub struct World<'p> {
     plan: &'p Plan,
     quanta: u32,
-    seats: Vec<Seat>,
+    members: Vec<Member>,
+    /// The logical clocks of all nodes.
+    clocks: Vec<u64>,
+    /// Before these the ticks and what was heard need no look.
+    deadlines: Deadlines,
+    /// The number of nodes in the fast mode.
+    fast: u32,
 }
 
 impl<'p> Model for World<'p> {
@@ -39,13 +46,15 @@ impl<'p> Model for World<'p> {
 impl<'p> World<'p> {
     ghost use Rattle.gs_core.specs.declared.event.Event.TheVariants.{Deliver, Quantum, Tick};
     ghost use Rattle.gs_plan.specs.Plans.{graph_of};
-    ghost use Rattle.gs_level.specs.Skews.{edge_skew, global_skew};
-    ghost use Rattle.gs_world.specs.Admitted.{IsAdmitted, IsTick, stale_in};
-    ghost use Rattle.gs_world.specs.Fast.{fast_in};
-    ghost use Rattle.gs_world.specs.Nets.{net_of};
-    ghost use Rattle.gs_world.specs.Reach.{IsReachable};
-    ghost use Rattle.gs_world.specs.Why.{why};
-    ghost use Rattle.gs_world.specs.World.{clock_in, clocks_in, effect, member, world_at_start, world_at_start_each};
+    ghost use Rattle.gs_skew.specs.Skews.{edge_skew, global_skew};
+    ghost use Rattle.gs_world.specs.Admitted.{IsAdmitted};
+    ghost use Rattle.gs_world.specs.Memory.{IsTick};
+    ghost use Rattle.gs_run.specs.Fast.{fast_in};
+    ghost use Rattle.gs_world.specs.Late.{AreDeadlines, IsNoneDueBefore, IsNoneStaleBefore, due_in, stale_in};
+    ghost use Rattle.gs_run.specs.Nets.{net_of};
+    ghost use Rattle.gs_run.specs.Reach.{IsReachable};
+    ghost use Rattle.gs_run.specs.Why.{why};
+    ghost use Rattle.gs_run.specs.World.{clock_in, clocks_in, effect, member, world_at_start, world_at_start_each};
 
     /// The start with these hardware readings and with one clock for all nodes, in clock units. See
     /// `docs/MODEL.md`, rule 14.
@@ -59,7 +68,8 @@ impl<'p> World<'p> {
         requires readings { All (λ reading. reading ≤ 2 ^ 61) hw.now }
         requires clock { l0 ≤ 2 ^ 61 }
         ensures { IfOk result
-            (λ world. world ≡ record { plan = plan.now; world = world_at_start (net_of plan.now) hw.now l0 }) }
+            (λ world.
+            world ≡ record { plan = plan.now; world = world_at_start (net_of plan.now) hw.now l0 }) }
     {
         let l0s = vec![in alloc; l0; hw.len()]?;
         World::start_each(alloc, plan, hw, &l0s)
@@ -77,17 +87,22 @@ impl<'p> World<'p> {
         requires one_each { length l0.now ≡ (graph_of plan.now).nodes }
         requires clocks { All (λ clock. clock ≤ 2 ^ 61) l0.now }
         ensures { IfOk result
-            (λ world. world ≡ record { plan = plan.now; world = world_at_start_each (net_of plan.now) hw.now l0.now }) }
+            (λ world.
+            world ≡ record { plan = plan.now; world = world_at_start_each (net_of plan.now) hw.now l0.now }) }
     {
-        let mut seats = Vec::new(alloc);
+        let mut members = Vec::new(alloc);
         for v in 0..plan.topo().nodes() {
-            let seat = Seat::start(alloc, plan, v, hw[v as usize], l0[v as usize])?;
-            seats.push(seat)?;
+            let member = Member::start(alloc, plan, v, hw[v as usize], l0[v as usize])?;
+            members.push(member)?;
         }
+        let clocks = Vec::from_slice(alloc, l0)?;
         Ok(World {
             plan,
             quanta: 0,
-            seats,
+            members,
+            clocks,
+            deadlines: Deadlines { due: 0, stale: 0 },
+            fast: 0,
         })
     }
 
@@ -96,7 +111,8 @@ impl<'p> World<'p> {
     pub fn step(&mut self, event: &Event) -> Result<(), Refused>
         ensures plan { self.new.plan ≡ self.old.plan }
         ensures allowed { OnOk result (why (net_of self.old.plan) self.old.world event.now ≡ None) }
-        ensures effect { OnOk result (self.new.world ≡ effect (net_of self.old.plan) self.old.world event.now) }
+        ensures effect { OnOk result
+            (self.new.world ≡ effect (net_of self.old.plan) self.old.world event.now) }
         ensures err { IfErr result
             (λ refused. refused ≢ Refused.OutOfMemory
             → why (net_of self.old.plan) self.old.world event.now ≡ Some refused) }
@@ -113,26 +129,32 @@ impl<'p> World<'p> {
     /// One quantum, in which each hardware clock adds its increment. It takes no memory.
     pub fn advance(&mut self, incs: &[u32]) -> Result<(), Refused>
         ensures plan { self.new.plan ≡ self.old.plan }
-        ensures allowed { OnOk result (why (net_of self.old.plan) self.old.world (Quantum incs.now) ≡ None) }
+        ensures allowed { OnOk result
+            (why (net_of self.old.plan) self.old.world (Quantum incs.now) ≡ None) }
         ensures effect { OnOk result
             (self.new.world ≡ effect (net_of self.old.plan) self.old.world (Quantum incs.now)) }
         ensures err { IfErr result
-            (λ refused. why (net_of self.old.plan) self.old.world (Quantum incs.now) ≡ Some refused) }
+            (λ refused.
+            why (net_of self.old.plan) self.old.world (Quantum incs.now) ≡ Some refused) }
         ensures unchanged { OnErr result (self.new ≡ self.old) }
     {
-        self.admit_quantum(incs)?;
+        self.deadlines = self.admit_quantum(incs)?;
         self.quanta += 1;
-        advance_seats(&mut self.seats, incs);
+        advance_members(&mut self.members, incs);
+        advance_clocks(&self.members, self.fast, incs, &mut self.clocks);
         Ok(())
     }
 
-    /// Why a quantum is refused.
-    fn admit_quantum(&self, incs: &[u32]) -> Result<(), Refused>
-        ensures ok { OnOk result (why (net_of self.now.plan) self.now.world (Quantum incs.now) ≡ None) }
+    /// Why a quantum is refused, or from when on to look again for what is late.
+    fn admit_quantum(&self, incs: &[u32]) -> Result<Deadlines, Refused>
+        ensures ok { OnOk result
+            (why (net_of self.now.plan) self.now.world (Quantum incs.now) ≡ None) }
+        ensures deadlines { IfOk result (AreDeadlines (net_of self.now.plan) self.now.world) }
         ensures err { IfErr result
-            (λ refused. why (net_of self.now.plan) self.now.world (Quantum incs.now) ≡ Some refused) }
+            (λ refused.
+            why (net_of self.now.plan) self.now.world (Quantum incs.now) ≡ Some refused) }
     {
-        if incs.len() != self.seats.len() {
+        if incs.len() != self.members.len() {
             return Err(Refused::Shape);
         }
         if self.quanta >= MAX_QUANTA {
@@ -142,12 +164,42 @@ impl<'p> World<'p> {
         if let Some(v) = first_drift(rate.lo(), rate.hi(), incs) {
             return Err(Refused::Drift(v as u32));
         }
-        if let Some(v) = first_due(self.plan.text().tick, self.quanta, &self.seats) {
-            return Err(Refused::TickDue(v as u32));
+        let due = self.admit_ticks()?;
+        let stale = self.admit_ages()?;
+        Ok(Deadlines { due, stale })
+    }
+
+    /// The least node whose tick is due, or from when on to look again.
+    fn admit_ticks(&self) -> Result<u64, Refused>
+        ensures ok { OnOk result (due_in (net_of self.now.plan) self.now.world ≡ None) }
+        ensures deadline { IfOk result (IsNoneDueBefore (net_of self.now.plan) self.now.world) }
+        ensures err { IfErr result
+            (λ refused. due_in (net_of self.now.plan) self.now.world ≡ Some refused) }
+    {
+        if u64::from(self.quanta) < self.deadlines.due {
+            return Ok(self.deadlines.due);
         }
+        let gap = self.plan.text().tick;
+        match first_due(gap, self.quanta, &self.members) {
+            Some(v) => Err(Refused::TickDue(v as u32)),
+            None => Ok(u64::from(oldest_tick(&self.members)) + u64::from(gap)),
+        }
+    }
+
+    /// The least node that heard some neighbour too long ago, or from when on to look again.
+    fn admit_ages(&self) -> Result<u64, Refused>
+        ensures ok { OnOk result (stale_in (net_of self.now.plan) self.now.world ≡ None) }
+        ensures deadline { IfOk result (IsNoneStaleBefore (net_of self.now.plan) self.now.world) }
+        ensures err { IfErr result
+            (λ refused. stale_in (net_of self.now.plan) self.now.world ≡ Some refused) }
+    {
+        if u64::from(self.quanta) < self.deadlines.stale {
+            return Ok(self.deadlines.stale);
+        }
+        let age = self.plan.text().age;
         match self.stale() {
             Some(refused) => Err(refused),
-            None => Ok(()),
+            None => Ok(u64::from(oldest_heard(&self.members)) + u64::from(age)),
         }
     }
 
@@ -157,8 +209,8 @@ impl<'p> World<'p> {
         ensures { result ≡ stale_in (net_of self.now.plan) self.now.world }
     {
         let age = self.plan.text().age;
-        let v = first_stale(age, self.quanta, &self.seats)?;
-        let i = first_old(age, self.quanta, &self.seats[v].heard)?;
+        let v = first_stale(age, self.quanta, &self.members)?;
+        let i = first_old(age, self.quanta, &self.members[v].heard)?;
         Some(Refused::Stale(self.plan.topo().neighbours(v as u32)[i], v as u32))
     }
 
@@ -166,7 +218,8 @@ impl<'p> World<'p> {
     fn tick(&mut self, v: u32) -> Result<(), Refused>
         ensures plan { self.new.plan ≡ self.old.plan }
         ensures allowed { OnOk result (why (net_of self.old.plan) self.old.world (Tick v) ≡ None) }
-        ensures effect { OnOk result (self.new.world ≡ effect (net_of self.old.plan) self.old.world (Tick v)) }
+        ensures effect { OnOk result
+            (self.new.world ≡ effect (net_of self.old.plan) self.old.world (Tick v)) }
         ensures err { IfErr result
             (λ refused. refused ≢ Refused.OutOfMemory
             → why (net_of self.old.plan) self.old.world (Tick v) ≡ Some refused) }
@@ -176,31 +229,43 @@ impl<'p> World<'p> {
         if v >= self.plan.topo().nodes() {
             return Err(Refused::Shape);
         }
-        self.seats[v as usize].tick(quanta)?;
+        let member = &mut self.members[v as usize];
+        let was = member.is_fast();
+        member.tick(quanta)?;
+        let is = member.is_fast();
+        let due = u64::from(quanta) + u64::from(self.plan.text().tick);
+        self.deadlines = self.deadlines.with_due(due);
+        self.fast = counted(self.fast, was, is);
         Ok(())
     }
 
     /// One delivery of a beacon.
     fn deliver(&mut self, from: u32, to: u32, seq: u64) -> Result<(), Refused>
         ensures plan { self.new.plan ≡ self.old.plan }
-        ensures allowed { OnOk result (why (net_of self.old.plan) self.old.world (Deliver from to seq) ≡ None) }
+        ensures allowed { OnOk result
+            (why (net_of self.old.plan) self.old.world (Deliver from to seq) ≡ None) }
         ensures effect { OnOk result
             (self.new.world ≡ effect (net_of self.old.plan) self.old.world (Deliver from to seq)) }
         ensures err { IfErr result
-            (λ refused. why (net_of self.old.plan) self.old.world (Deliver from to seq) ≡ Some refused) }
+            (λ refused.
+            why (net_of self.old.plan) self.old.world (Deliver from to seq) ≡ Some refused) }
         ensures unchanged { OnErr result (self.new ≡ self.old) }
     {
         let (i, sent) = self.admit_delivery(from, to, seq)?;
-        self.seats[to as usize].hear(i, &sent);
+        self.members[to as usize].hear(i, &sent);
+        let stale = u64::from(sent.quantum()) + u64::from(self.plan.text().age);
+        self.deadlines = self.deadlines.with_stale(stale);
         Ok(())
     }
 
     /// Why a delivery is refused, or the place of the sender's edge and what was sent.
-    fn admit_delivery(&self, from: u32, to: u32, seq: u64) -> Result<(usize, SentBeacon), Refused>
+    fn admit_delivery(&self, from: u32, to: u32, seq: u64) -> Result<(u32, SentBeacon), Refused>
         ensures ok { IfOk result
-            (λ found. IsAdmitted (net_of self.now.plan) self.now.world from to seq found.0 found.1) }
+            (λ found.
+            IsAdmitted (net_of self.now.plan) self.now.world from to seq found.0 found.1) }
         ensures err { IfErr result
-            (λ refused. why (net_of self.now.plan) self.now.world (Deliver from to seq) ≡ Some refused) }
+            (λ refused.
+            why (net_of self.now.plan) self.now.world (Deliver from to seq) ≡ Some refused) }
     {
         let topo = self.plan.topo();
         if to >= topo.nodes() {
@@ -209,12 +274,13 @@ impl<'p> World<'p> {
         let Some(i) = place(topo.neighbours(to), from) else {
             return Err(Refused::Shape);
         };
-        let Some(sent) = SentBeacon::at_number(&self.seats[from as usize].sent, seq) else {
+        let i = i as u32;
+        let Some(sent) = SentBeacon::at_number(&self.members[from as usize].sent, seq) else {
             return Err(Refused::Unknown);
         };
-        let seat = &self.seats[to as usize];
-        if seat.is_newer(i, sent.beacon().seq) {
-            seat.delays[i].admit(sent.quantum(), self.quanta)?;
+        let member = &self.members[to as usize];
+        if member.is_newer(i, sent.beacon().seq) {
+            member.delays[i as usize].admit(sent.quantum(), self.quanta)?;
         }
         Ok((i, sent))
     }
@@ -234,7 +300,7 @@ impl<'p> World<'p> {
         ensures value { result ≡ clock_in (net_of self.now.plan) self.now.world v }
         ensures below { result < END }
     {
-        self.seats[v as usize].clock()
+        self.clocks[v as usize]
     }
 
     /// The hardware reading of node `v`, in clock units.
@@ -243,7 +309,7 @@ impl<'p> World<'p> {
         ensures value { result ≡ (member self.now.world v).reading }
         ensures below { result < END }
     {
-        self.seats[v as usize].reading
+        self.members[v as usize].reading
     }
 
     /// The mode of node `v` since its last tick.
@@ -251,7 +317,14 @@ impl<'p> World<'p> {
         requires { v < (graph_of self.now.plan).nodes }
         ensures { result ≡ (member self.now.world v).node.mode }
     {
-        self.seats[v as usize].core.mode()
+        self.members[v as usize].core.mode()
+    }
+
+    /// The logical clocks of all nodes, in clock units, each at the place of its node.
+    pub fn clocks(&self) -> &[u64]
+        ensures { result.now ≡ clocks_in (net_of self.now.plan) self.now.world }
+    {
+        &self.clocks
     }
 
     /// Writes the logical clocks of all nodes, in clock units, each at the place of its node. It takes no
@@ -260,21 +333,21 @@ impl<'p> World<'p> {
         requires { length clocks.old ≡ (graph_of self.now.plan).nodes }
         ensures { clocks.new ≡ clocks_in (net_of self.now.plan) self.now.world }
     {
-        write_clocks(&self.seats, clocks);
+        clocks.copy_from_slice(&self.clocks);
     }
 
     /// The number of nodes in the fast mode.
     pub fn fast_nodes(&self) -> u32
         ensures { result ≡ fast_in self.now.world }
     {
-        count_fast(&self.seats) as u32
+        self.fast
     }
 
     /// The greatest difference of two logical clocks, in clock units.
     pub fn global_skew(&self) -> u64
         ensures { result ≡ global_skew (clocks_in (net_of self.now.plan) self.now.world) }
     {
-        range(&self.seats).width()
+        range(&self.clocks).width()
     }
 
     /// The difference of the logical clocks at the ends of the edge of this number, in clock units.

@@ -1,7 +1,7 @@
 use Rattle.std.proofs.Common.{◌≡◌, map, take}
 use Rattle.gs_world.specs.Delays.{delay_of}
-use Rattle.gs_world.specs.Net.{neighbours}
-use Rattle.gs_world.specs.Nets.{net_of}
+use Rattle.gs_run.specs.Net.{neighbours}
+use Rattle.gs_run.specs.Nets.{net_of}
 use Rattle.gs_world.proofs.delay.delays.Given as goal
 
 abbrev pub invariant-loop-x : goal.invariant-loop-x

@@ -1,13 +1,14 @@
-use Rattle.std.proofs.Common.{◌≡◌, ◌∙◌, arith, length, Some, subst, sym}
+use Rattle.std.proofs.Common.{◌≡◌, ◌∙◌, arith, length, None, Some, subst, sym}
+use Rattle.std.proofs.lemmas.Result.{err_from_is_err_and}
+use Rattle.gs_world.specs.Late.{due_in, stale_in}
 use Rattle.std.proofs.lemmas.List.Quantifiers.{position-Some}
 use Rattle.gs_core.specs.declared.event.Event.TheVariants.{Quantum}
-use Rattle.gs_world.specs.Admitted.{stale_in}
-use Rattle.gs_world.specs.Nets.{net_of}
+use Rattle.gs_run.specs.Nets.{net_of}
 use Rattle.gs_world.specs.Placed.{Placed}
 use Rattle.gs_world.specs.Seen.{world_in}
-use Rattle.gs_world.specs.Why.{drifts, why}
-use Rattle.gs_world.specs.declared.refused.Refused.TheVariants.{Drift, End, Shape, TickDue}
-use Rattle.gs_world.proofs.Advancing.{at_end, drift_read, drifting, due_node, due_read, else_stale, few_nodes, tick_due, wrong_count}
+use Rattle.gs_run.specs.Why.{drifts, why}
+use Rattle.gs_run.specs.declared.refused.Refused.TheVariants.{Drift, End, Shape}
+use Rattle.gs_world.proofs.Advancing.{at_end, drift_read, drifting, else_stale, few_nodes, tick_due, wrong_count}
 use Rattle.gs_world.proofs.Placing.{room_inside}
 use Rattle.gs_world.proofs.world.World.admit_quantum.Goals as goal
 
@@ -52,20 +53,8 @@ returns-in-Some-clause-err c =
     c.self.view_is
     (drifting (net_of a.plan.now) (world_in a) c.args.incs.now c.in-Some.v count c.if-self-ge-MAX_QUANTA.false drift)
 
-pub overflow_cast-result-in-Some-first_due : goal.overflow_cast-result-in-Some-first_due
-overflow_cast-result-in-Some-first_due c =
-    let a = c.self.inside in
-    let nodes = room_inside a c.self.invariant in
-    let due =
-    due_read a c.text.result.now c.deref.result.now c.first_due.result c.text.ensures c.deref.ensures.value
-    c.first_due.ensures
-    ∙ c.in-Some-first_due.is in
-    let found = due_node a c.in-Some-first_due.v c.self.invariant due in
-    let few = few_nodes a in
-    omega (arith, found, few)
-
-pub returns-in-Some-first_due-clause-err : goal.returns-in-Some-first_due-clause-err
-returns-in-Some-first_due-clause-err c =
+pub returns-in_err-due-clause-err : goal.returns-in_err-due-clause-err
+returns-in_err-due-clause-err c =
     let a = c.self.inside in
     let nodes = room_inside a c.self.invariant in
     let count : length c.args.incs.now ≡ (net_of a.plan.now).nodes = c.if-incs-len.false ∙ c.len.ensures ∙ nodes in
@@ -73,17 +62,18 @@ returns-in-Some-first_due-clause-err c =
     drift_read a c.rate-rate.result.now c.lo.result c.hi.result c.args.incs.now c.first_drift.result
     c.rate-rate.ensures c.lo.ensures c.hi.ensures c.first_drift.ensures
     ∙ c.in_default.is in
-    let due =
-    due_read a c.text.result.now c.deref.result.now c.first_due.result c.text.ensures c.deref.ensures.value
-    c.first_due.ensures
-    ∙ c.in-Some-first_due.is in
-    subst
-    (λ (p : Placed). why (net_of p.plan) p.world (Quantum c.args.incs.now) ≡ Some (TickDue c.in-Some-first_due.v))
-    c.self.view_is
-    (tick_due (net_of a.plan.now) (world_in a) c.args.incs.now c.in-Some-first_due.v count c.if-self-ge-MAX_QUANTA.false drift due)
+    let due : due_in (net_of a.plan.now) (world_in a) ≡ Some c.in_err-due.field-0.0 =
+    subst (λ (p : Placed). due_in (net_of p.plan) p.world ≡ Some c.in_err-due.field-0.0) (sym c.self.view_is)
+    c.in_err-due.ensures.err in
+    let refused : why (net_of a.plan.now) (world_in a) (Quantum c.args.incs.now) ≡ Some c.in_err-due.field-0.0 =
+    tick_due (net_of a.plan.now) (world_in a) c.args.incs.now c.in_err-due.field-0.0 count
+    c.if-self-ge-MAX_QUANTA.false drift due in
+    let answer = err_from_is_err_and c.from_residual.result c.from_residual.ensures.1 in
+    rw (answer.1, answer.2)
+    (subst (λ (p : Placed). why (net_of p.plan) p.world (Quantum c.args.incs.now) ≡ Some c.in_err-due.field-0.0) c.self.view_is refused)
 
-pub returns-in-Some-stale-clause-err : goal.returns-in-Some-stale-clause-err
-returns-in-Some-stale-clause-err c =
+pub returns-in_err-stale-clause-err : goal.returns-in_err-stale-clause-err
+returns-in_err-stale-clause-err c =
     let a = c.self.inside in
     let nodes = room_inside a c.self.invariant in
     let count : length c.args.incs.now ≡ (net_of a.plan.now).nodes = c.if-incs-len.false ∙ c.len.ensures ∙ nodes in
@@ -91,19 +81,18 @@ returns-in-Some-stale-clause-err c =
     drift_read a c.rate-rate.result.now c.lo.result c.hi.result c.args.incs.now c.first_drift.result
     c.rate-rate.ensures c.lo.ensures c.hi.ensures c.first_drift.ensures
     ∙ c.in_default.is in
-    let due =
-    due_read a c.text.result.now c.deref.result.now c.first_due.result c.text.ensures c.deref.ensures.value
-    c.first_due.ensures
-    ∙ c.in_default-first_due.is in
+    let due : due_in (net_of a.plan.now) (world_in a) ≡ None =
+    subst (λ (p : Placed). due_in (net_of p.plan) p.world ≡ None) (sym c.self.view_is) c.in_ok-due.ensures.ok in
     let stale =
     subst
     (λ (p : Placed). why (net_of p.plan) p.world (Quantum c.args.incs.now) ≡ stale_in (net_of p.plan) p.world)
     c.self.view_is
     (else_stale (net_of a.plan.now) (world_in a) c.args.incs.now count c.if-self-ge-MAX_QUANTA.false drift due) in
-    stale ∙ sym c.stale.ensures ∙ c.in-Some-stale.is
+    let answer = err_from_is_err_and c.from_residual-in_err-stale.result c.from_residual-in_err-stale.ensures.1 in
+    rw (answer.1, answer.2) (stale ∙ c.in_err-stale.ensures.err)
 
-pub returns-in-None-clause-ok : goal.returns-in-None-clause-ok
-returns-in-None-clause-ok c =
+pub returns-clause-ok : goal.returns-clause-ok
+returns-clause-ok c =
     let a = c.self.inside in
     let nodes = room_inside a c.self.invariant in
     let count : length c.args.incs.now ≡ (net_of a.plan.now).nodes = c.if-incs-len.false ∙ c.len.ensures ∙ nodes in
@@ -111,13 +100,11 @@ returns-in-None-clause-ok c =
     drift_read a c.rate-rate.result.now c.lo.result c.hi.result c.args.incs.now c.first_drift.result
     c.rate-rate.ensures c.lo.ensures c.hi.ensures c.first_drift.ensures
     ∙ c.in_default.is in
-    let due =
-    due_read a c.text.result.now c.deref.result.now c.first_due.result c.text.ensures c.deref.ensures.value
-    c.first_due.ensures
-    ∙ c.in_default-first_due.is in
+    let due : due_in (net_of a.plan.now) (world_in a) ≡ None =
+    subst (λ (p : Placed). due_in (net_of p.plan) p.world ≡ None) (sym c.self.view_is) c.in_ok-due.ensures.ok in
     let stale =
     subst
     (λ (p : Placed). why (net_of p.plan) p.world (Quantum c.args.incs.now) ≡ stale_in (net_of p.plan) p.world)
     c.self.view_is
     (else_stale (net_of a.plan.now) (world_in a) c.args.incs.now count c.if-self-ge-MAX_QUANTA.false drift due) in
-    stale ∙ sym c.stale.ensures ∙ c.in-None.is
+    stale ∙ c.in_ok-stale.ensures.ok

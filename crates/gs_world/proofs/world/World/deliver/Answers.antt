@@ -1,7 +1,8 @@
-use Rattle.std.proofs.Common.{arith}
-use Rattle.gs_world.specs.Nets.{net_of}
+use Rattle.std.proofs.Common.{ap, arith}
+use Rattle.gs_planfile.specs.declared.text.PlanText.{PlanText}
+use Rattle.gs_run.specs.Nets.{net_of}
 use Rattle.gs_world.proofs.Placing.{room_inside, seat_read}
-use Rattle.gs_world.proofs.Delivering.{admitted_inside, delivered_effect, delivered_inside, hearing_has_no_fault, place_inside, sender_place}
+use Rattle.gs_world.proofs.Delivering.{KeepsHearing, admitted_inside, delivered_effect, delivered_inside, hearing_has_no_fault, place_inside, sender_place}
 use Rattle.gs_world.proofs.world.World.deliver.Goals as goal
 
 pub index_mut-requires : goal.index_mut-requires
@@ -22,17 +23,6 @@ hear-requires-clause-place c =
     c.in_ok-i.ensures.ok in
     sender_place a c.args.from c.args.to c.args.seq c.in_ok-i.i c.in_ok-i.sent c.index_mut.result.now c.self.invariant
     may c.index_mut.ensures.value
-
-pub hear-requires-clause-entry : goal.hear-requires-clause-entry
-hear-requires-clause-entry c =
-    let a = c.self.inside in
-    let may =
-    admitted_inside a c.args.self.now c.args.from c.args.to c.args.seq c.in_ok-i.i c.in_ok-i.sent c.self.view_is
-    c.in_ok-i.ensures.ok in
-    let at = (place_inside (net_of a.plan.now) c.args.to c.args.from c.in_ok-i.i may.place).0 in
-    let count =
-    (seat_read a c.self.invariant c.args.to c.index_mut.result.now may.node c.index_mut.ensures.value).entries in
-    omega (arith, at, count)
 
 pub hear-requires-clause-heard : goal.hear-requires-clause-heard
 hear-requires-clause-heard c =
@@ -60,8 +50,19 @@ invariant_of-self c =
     let may =
     admitted_inside a c.args.self.now c.args.from c.args.to c.args.seq c.in_ok-i.i c.in_ok-i.sent c.self.view_is
     c.in_ok-i.ensures.ok in
+    let text = ap (λ (t : PlanText). t.age) c.text.ensures in
+    let sent = c.quantum.ensures in
+    let low = c.from.ensures in
+    let age = c.from-2.ensures in
+    let by = c.with_stale-self-inside.ensures.by in
+    let keeps : KeepsHearing a c.in_ok-i.sent c.with_stale-self-inside.result = record {
+      sooner = c.with_stale-self-inside.ensures.sooner;
+      by = omega (arith, by, text, sent, low, age);
+      same = c.with_stale-self-inside.ensures.same;
+    } in
     delivered_inside a c.args.from c.args.to c.args.seq c.in_ok-i.i c.in_ok-i.sent c.index_mut.result.now
-    c.hear.new.self c.self.invariant may c.index_mut.ensures.value c.hear.ensures.told c.hear.ensures.member
+    c.hear.new.self c.with_stale-self-inside.result c.self.invariant may c.index_mut.ensures.value
+    c.hear.ensures.told c.hear.ensures.member keeps
 
 pub returns-clause-effect : goal.returns-clause-effect
 returns-clause-effect c =
@@ -70,5 +71,6 @@ returns-clause-effect c =
     admitted_inside a c.args.self.now c.args.from c.args.to c.args.seq c.in_ok-i.i c.in_ok-i.sent c.self.view_is
     c.in_ok-i.ensures.ok in
     delivered_effect a c.args.self.now c.args.from c.args.to c.args.seq c.in_ok-i.i c.in_ok-i.sent
-    c.index_mut.result.now c.hear.new.self c.self.invariant c.self.view_is may c.index_mut.ensures.value
+    c.index_mut.result.now c.hear.new.self c.with_stale-self-inside.result c.self.invariant c.self.view_is may
+    c.index_mut.ensures.value
     c.hear.ensures.member

@@ -1,12 +1,12 @@
 use Rattle.std.proofs.Common.{◌≡◌, ◌∙◌, ap, get_or, List, slice_get, slice_index, sym, Some, ℕ}
 use Rattle.std.proofs.lemmas.Option.{slice_get-get_or}
 use Rattle.gs_topo.specs.Graph.{Graph}
-use Rattle.gs_level.specs.Skews.{edge_skew}
+use Rattle.gs_skew.specs.Skews.{edge_skew}
 use Rattle.gs_plan.specs.Plans.{graph_of}
 use Rattle.gs_plan.proofs.Linking.{if_some}
-use Rattle.gs_world.specs.Nets.{net_of}
+use Rattle.gs_run.specs.Nets.{net_of}
 use Rattle.gs_world.specs.Placed.{Placed}
-use Rattle.gs_world.specs.World.{clock_in, clocks_in}
+use Rattle.gs_run.specs.World.{clock_in, clocks_in}
 use Rattle.gs_world.proofs.Reading.{clock_found, either_way, ends_of_edge}
 use Rattle.gs_world.proofs.world.World.edge_skew.Goals as goal
 

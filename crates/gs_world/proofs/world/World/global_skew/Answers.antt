@@ -1,25 +1,18 @@
-use Rattle.std.proofs.Common.{◌∙◌, All, ap, arith, List, map, subst, sym, ℕ}
-use Rattle.gs_level.specs.Skews.{global_skew}
-use Rattle.gs_world.specs.Seats.{IsReadable, clock_at}
-use Rattle.gs_world.specs.declared.seat.Seat.{Seat}
-use Rattle.gs_world.proofs.Placing.{room_inside}
-use Rattle.gs_world.proofs.PlanNumbers.{plan_has_numbers}
-use Rattle.gs_world.proofs.Reading.{clocks_read, readable}
+use Rattle.std.proofs.Common.{◌∙◌, ap, arith, length, List, ℕ}
+use Rattle.gs_skew.specs.Skews.{global_skew}
+use Rattle.gs_run.proofs.PlanNumbers.{plan_has_numbers}
+use Rattle.gs_world.proofs.Reading.{clocks_inside, clocks_shown}
 use Rattle.gs_world.proofs.world.World.global_skew.Goals as goal
 
-pub range-requires-clause-some : goal.range-requires-clause-some
-range-requires-clause-some c =
-    let count = room_inside c.self.inside c.self.invariant in
+pub range-requires : goal.range-requires
+range-requires c =
+    let count = clocks_inside c.self.inside c.self.invariant in
+    let read = ap (λ (xs : List ℕ). length xs) c.deref.ensures.value in
     let some = (plan_has_numbers c.self.inside.plan.now).some in
-    omega (arith, count, some)
-
-pub range-requires-clause-readable : goal.range-requires-clause-readable
-range-requires-clause-readable c =
-    subst (λ (ss : List Seat). All IsReadable ss) (sym c.deref.ensures.value)
-    (readable c.self.inside c.self.invariant)
+    omega (arith, count, read, some)
 
 pub returns : goal.returns
 returns c =
-    c.width.ensures.skew (map clock_at c.deref.result.now) c.range.ensures
+    c.width.ensures.skew c.deref.result.now c.range.ensures
     ∙ ap (λ (xs : List ℕ). global_skew xs)
-    (ap (map clock_at) c.deref.ensures.value ∙ clocks_read c.self.inside c.args.self.now c.self.invariant c.self.view_is)
+    (c.deref.ensures.value ∙ clocks_shown c.self.inside c.args.self.now c.self.invariant c.self.view_is)

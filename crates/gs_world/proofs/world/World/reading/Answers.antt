@@ -1,5 +1,5 @@
 use Rattle.std.proofs.Common.{ap, arith, sym}
-use Rattle.gs_world.specs.World.{Member}
+use Rattle.gs_run.specs.World.{Member}
 use Rattle.gs_world.proofs.Placing.{reads, seats_of}
 use Rattle.gs_world.proofs.world.World.reading.Goals as goal
 

@@ -1,12 +1,12 @@
 use Rattle.std.proofs.Common.{◌≡◌, ◌<◌, ◌∙◌, ap, arith, sym, subst, length, List, Option, None, Some, slice_index, ℕ}
 use Rattle.gs_topo.specs.Graph.{Graph, neighbours_of}
-use Rattle.gs_world.specs.Admitted.{stale_in}
-use Rattle.gs_world.specs.Net.{neighbours}
-use Rattle.gs_world.specs.Nets.{net_of}
+use Rattle.gs_world.specs.Late.{stale_in}
+use Rattle.gs_run.specs.Net.{neighbours}
+use Rattle.gs_run.specs.Nets.{net_of}
 use Rattle.gs_world.specs.Placed.{Placed}
 use Rattle.gs_world.specs.Seen.{world_in}
-use Rattle.gs_world.specs.declared.refused.Refused.{Refused}
-use Rattle.gs_world.specs.declared.refused.Refused.TheVariants.{Stale}
+use Rattle.gs_run.specs.declared.refused.Refused.{Refused}
+use Rattle.gs_run.specs.declared.refused.Refused.TheVariants.{Stale}
 use Rattle.gs_world.proofs.Advancing.{few_nodes, link_inside, no_place, none_stale, some_stale, stale_link, stale_node, stale_read}
 use Rattle.gs_world.proofs.world.World.stale.Goals as goal
 

@@ -1,8 +1,8 @@
 use Rattle.std.proofs.Common.{◌≡◌, ◌∙◌, ap, length, replicate, rules}
 use Rattle.std.proofs.lemmas.Result.{IfOk-weaker}
-use Rattle.gs_world.specs.Nets.{net_of}
+use Rattle.gs_run.specs.Nets.{net_of}
 use Rattle.gs_world.specs.Placed.{Placed}
-use Rattle.gs_world.specs.World.{World, world_at_start, world_at_start_each}
+use Rattle.gs_run.specs.World.{World, world_at_start, world_at_start_each}
 use Rattle.gs_world.proofs.Starting.{same_start}
 use Rattle.gs_world.proofs.world.World.start.Goals as goal
 

@@ -1,8 +1,8 @@
 use Rattle.std.proofs.Common.{◌≡◌, ◌∙◌, ap, subst, sym, None, OnOk}
 use Rattle.gs_core.specs.declared.event.Event.{Event}
 use Rattle.gs_core.specs.declared.event.Event.TheVariants.{Quantum}
-use Rattle.gs_world.specs.Nets.{net_of}
-use Rattle.gs_world.specs.Why.{why}
+use Rattle.gs_run.specs.Nets.{net_of}
+use Rattle.gs_run.specs.Why.{why}
 use Rattle.gs_world.proofs.world.World.step.Goals as goal
 
 pub returns-in-Quantum-clause-allowed : goal.returns-in-Quantum-clause-allowed
