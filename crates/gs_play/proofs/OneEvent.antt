@@ -10,19 +10,19 @@ use Rattle.gs_core.specs.declared.event.Event.{Event}
 use Rattle.gs_core.specs.declared.event.Event.TheVariants.{Quantum, Tick, Deliver}
 use Rattle.gs_level.specs.Tallies.{tally_of}
 use Rattle.gs_level.specs.declared.tally.Tally.{Tally}
-use Rattle.gs_world.specs.Fast.{fast_in}
-use Rattle.gs_world.specs.Net.{Net, params_of}
-use Rattle.gs_world.specs.Run.{later_ends}
-use Rattle.gs_world.specs.Why.{why}
-use Rattle.gs_world.specs.World.{World, member, clocks_in, effect, advance_all, member_at_start, ticked_member}
-use Rattle.gs_world.specs.declared.refused.Refused.{Refused}
-use Rattle.gs_world.proofs.Keeping.{advance_count, quantum_is}
-use Rattle.gs_world.proofs.Refusals.{may_advance}
-use Rattle.gs_play.specs.Breach.{breach_of, first_breach}
-use Rattle.gs_play.specs.Calm.{Calm}
-use Rattle.gs_play.specs.Played.{start_of}
+use Rattle.gs_run.specs.Fast.{fast_in}
+use Rattle.gs_run.specs.Net.{Net, params_of}
+use Rattle.gs_run.specs.Run.{later_ends}
+use Rattle.gs_run.specs.Why.{why}
+use Rattle.gs_run.specs.World.{World, member, clocks_in, effect, advance_all, member_at_start, ticked_member}
+use Rattle.gs_run.specs.declared.refused.Refused.{Refused}
+use Rattle.gs_run.proofs.Keeping.{advance_count, quantum_is}
+use Rattle.gs_run.proofs.Refusals.{may_advance}
+use Rattle.gs_calendar.specs.Breach.{breach_of, first_breach}
+use Rattle.gs_calendar.specs.Calm.{Calm}
+use Rattle.gs_calendar.specs.Scripts.{start_of}
 use Rattle.gs_play.specs.UnderWay.{IsUnderWay}
-use Rattle.gs_play.proofs.OneSeat.{IsQuietWorld, run_is_quiet}
+use Rattle.gs_calendar.proofs.OneSeat.{IsQuietWorld, run_is_quiet}
 
 -- ---- the start
 

@@ -10,14 +10,14 @@ use Rattle.gs_plan.specs.Plans.{graph_of}
 use Rattle.gs_plan.specs.declared.plan.Plan.{Plan}
 use Rattle.gs_level.specs.Tallies.{tally_of}
 use Rattle.gs_level.specs.declared.tally.Tally.{Tally}
-use Rattle.gs_world.specs.Fast.{fast_in}
-use Rattle.gs_world.specs.Net.{Net}
-use Rattle.gs_world.specs.Nets.{net_of}
-use Rattle.gs_world.specs.Why.{why}
-use Rattle.gs_world.specs.World.{World, clocks_in, effect}
-use Rattle.gs_play.specs.Breach.{Breach, breach_in, first_breach}
-use Rattle.gs_play.specs.Calm.{Calm, IsCalm}
-use Rattle.gs_play.specs.Played.{start_of}
+use Rattle.gs_run.specs.Fast.{fast_in}
+use Rattle.gs_run.specs.Net.{Net}
+use Rattle.gs_run.specs.Nets.{net_of}
+use Rattle.gs_run.specs.Why.{why}
+use Rattle.gs_run.specs.World.{World, clocks_in, effect}
+use Rattle.gs_calendar.specs.Breach.{Breach, breach_in, first_breach}
+use Rattle.gs_calendar.specs.Calm.{Calm, IsCalm}
+use Rattle.gs_calendar.specs.Scripts.{start_of}
 use Rattle.gs_play.specs.Running.{IsRunning}
 use Rattle.gs_play.specs.Stops.{StopsAt}
 use Rattle.gs_play.specs.UnderWay.{IsUnderWay}

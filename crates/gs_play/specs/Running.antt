@@ -3,7 +3,7 @@ use Rattle.std.specs.Prelude.{◌≡◌, List}
 use Rattle.gs_plan.specs.Plans.{graph_of}
 use Rattle.gs_plan.specs.declared.plan.Plan.{Plan}
 use Rattle.gs_core.specs.declared.event.Event.{Event}
-use Rattle.gs_world.specs.Nets.{net_of}
+use Rattle.gs_run.specs.Nets.{net_of}
 use Rattle.gs_play.specs.UnderWay.{IsUnderWay}
 use Rattle.gs_play.specs.declared.running.Running.{Running}
 

@@ -1,17 +1,10 @@
 -- What playing a script on its plan gives.
-use Rattle.std.specs.Prelude.{Option}
 use Rattle.gs_plan.specs.Plans.{text_of, graph_of, rate_of}
 use Rattle.gs_plan.specs.declared.plan.Plan.{Plan}
 use Rattle.gs_level.specs.declared.report.Report.{Report}
 use Rattle.gs_script.specs.Script.{Said}
-use Rattle.gs_world.specs.Nets.{net_of}
-use Rattle.gs_play.specs.Breach.{Breach}
-use Rattle.gs_play.specs.Course.{course_of}
-use Rattle.gs_play.specs.Played.{breach_of_course, played}
-
--- the first breach of a script
-abbrev pub breach_of_script : Plan → Said → Option Breach
-breach_of_script p s = breach_of_course (net_of p) (course_of s)
+use Rattle.gs_calendar.specs.Course.{course_of}
+use Rattle.gs_play.specs.Played.{played}
 
 -- The report of a script.
 abbrev pub report_of_script : Plan → Said → Report

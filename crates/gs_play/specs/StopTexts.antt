@@ -1,6 +1,6 @@
 -- The words for why a play ends with no report.
 use Rattle.std.specs.Prelude.{ℕ, List, ◌++◌, codes, decimal}
-use Rattle.gs_play.specs.Breach.{Breach}
+use Rattle.gs_calendar.specs.Breach.{Breach}
 use Rattle.gs_play.specs.declared.stop.PlayStop.{PlayStop}
 use Rattle.gs_play.specs.declared.stop.PlayStop.TheVariants.{Stale, OutOfMemory}
 

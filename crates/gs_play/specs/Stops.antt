@@ -1,6 +1,6 @@
 -- Why a play ends with no report.
 use Rattle.std.specs.Prelude.{◌≡◌, Option, Some, ⊤}
-use Rattle.gs_play.specs.Breach.{Breach}
+use Rattle.gs_calendar.specs.Breach.{Breach}
 use Rattle.gs_play.specs.declared.stop.PlayStop.{PlayStop}
 use Rattle.gs_play.specs.declared.stop.PlayStop.TheVariants.{Stale, OutOfMemory}
 

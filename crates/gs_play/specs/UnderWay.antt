@@ -4,12 +4,13 @@ use Rattle.gs_topo.specs.Graph.{Graph}
 use Rattle.gs_core.specs.declared.event.Event.{Event}
 use Rattle.gs_level.specs.Tallies.{tally_of}
 use Rattle.gs_level.specs.declared.tally.Tally.{Tally}
-use Rattle.gs_world.specs.Net.{Net}
-use Rattle.gs_world.specs.Run.{later_ends}
-use Rattle.gs_world.specs.World.{World, clocks_in}
-use Rattle.gs_play.specs.Breach.{first_breach}
-use Rattle.gs_play.specs.Calm.{Calm}
-use Rattle.gs_play.specs.Played.{fast_of, rows_of, start_of}
+use Rattle.gs_run.specs.Net.{Net}
+use Rattle.gs_run.specs.Run.{later_ends}
+use Rattle.gs_run.specs.World.{World, clocks_in}
+use Rattle.gs_calendar.specs.Breach.{first_breach}
+use Rattle.gs_calendar.specs.Calm.{Calm}
+use Rattle.gs_run.specs.RunRows.{fast_of, rows_of}
+use Rattle.gs_calendar.specs.Scripts.{start_of}
 
 -- Of all events of a play these are left in this world, and nothing was refused so far. The rows of clocks that were
 -- taken in, of which `clocks` is the last, and those that are to come are the rows of all events, and so it is with

@@ -1,24 +1,14 @@
-//! Scripts played on their plan: the events of a script, when the nodes tick and send and what comes when,
-//! in order; the player that reports the skews of the clocks; and the bounds that every play keeps.
+//! The player of scripts: it reports the skews of the clocks, and every play keeps the bounds of its plan.
 #![tactic(auto)]
 
-pub use feed::Feed;
-pub use laws::{few_losses_never_breach, scripts_are_calm, scripts_keep_bounds};
+pub use gs_calendar::{Feed, few_losses_never_breach, scripts_are_calm};
+pub use laws::scripts_keep_bounds;
 pub use playing::play;
 pub use stop::PlayStop;
-pub use transit::Key;
-pub use turn::Turn;
 
-mod feed;
-#[cfg(test)]
-mod feed_tests;
 mod laws;
 mod playing;
-mod round;
 mod running;
-mod sending;
 mod stop;
 #[cfg(test)]
 mod tests;
-mod transit;
-mod turn;

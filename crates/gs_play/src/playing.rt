@@ -1,14 +1,16 @@
 ghost use Rattle.std.specs.Prelude.{◌≡◌, ◌+◌, length, IfErr, IfOk, None};
 ghost use Rattle.gs_plan.specs.Plans.{graph_of, text_of};
-ghost use Rattle.gs_play.specs.Kept.{IsWithinBounds, PlayKeepsBounds};
-ghost use Rattle.gs_play.specs.Losses.{LosesFew};
-ghost use Rattle.gs_play.specs.Scripts.{breach_of_script, report_of_script};
+ghost use Rattle.gs_world.specs.RunReports.{IsWithinBounds};
+ghost use Rattle.gs_play.specs.Headline.{PlayKeepsBounds};
+ghost use Rattle.gs_calendar.specs.Losses.{LosesFew};
+ghost use Rattle.gs_calendar.specs.Scripts.{breach_of_script};
+ghost use Rattle.gs_play.specs.Scripts.{report_of_script};
 ghost use Rattle.gs_play.specs.Stops.{StopsAt};
 
-use crate::feed::Feed;
 use crate::running::Running;
 use crate::stop::PlayStop;
-use gs_io::Gate;
+use gs_calendar::Feed;
+use gs_gate::Gate;
 use gs_level::Report;
 use gs_plan::Plan;
 use gs_script::Script;

@@ -1,5 +1,5 @@
-use crate::{PlayStop, few_losses_never_breach, play, scripts_are_calm, scripts_keep_bounds};
-use gs_io::PlainGate;
+use crate::{PlayStop, play, scripts_keep_bounds};
+use gs_gate::PlainGate;
 use gs_level::{Peak, Report};
 use gs_plan::{Plan, check};
 use gs_planfile::{PlanText, Shape, base};
@@ -167,9 +167,6 @@ fn other_shapes_are_played(rt: HostRuntime) -> Result<(), Fail> {
 }
 
 #[test]
-fn laws_cost_nothing(_rt: HostRuntime) -> Result<(), Fail> {
-    few_losses_never_breach();
-    scripts_are_calm();
+fn laws_cost_nothing(_rt: HostRuntime) {
     scripts_keep_bounds();
-    Ok(())
 }

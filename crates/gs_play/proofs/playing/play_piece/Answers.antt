@@ -3,18 +3,18 @@ use Rattle.std.proofs.lemmas.Result.{err_from_is_err_and}
 use Rattle.gs_core.specs.declared.event.Event.{Event}
 use Rattle.gs_plan.specs.Plans.{graph_of, text_of}
 use Rattle.gs_level.specs.declared.report.Report.{Report}
-use Rattle.gs_world.specs.Nets.{net_of}
-use Rattle.gs_world.proofs.PlanNumbers.{plan_has_numbers}
-use Rattle.gs_play.specs.Calm.{Calm}
-use Rattle.gs_play.specs.Course.{course_of}
-use Rattle.gs_play.specs.Events.{events_of}
-use Rattle.gs_play.specs.Kept.{IsWithinBounds}
-use Rattle.gs_play.specs.Played.{start_of}
+use Rattle.gs_run.specs.Nets.{net_of}
+use Rattle.gs_run.proofs.PlanNumbers.{plan_has_numbers}
+use Rattle.gs_calendar.specs.Calm.{Calm}
+use Rattle.gs_calendar.specs.Course.{course_of}
+use Rattle.gs_calendar.specs.Events.{events_of}
+use Rattle.gs_world.specs.RunReports.{IsWithinBounds}
+use Rattle.gs_calendar.specs.Scripts.{start_of}
 use Rattle.gs_play.specs.Running.{IsRunning}
 use Rattle.gs_play.specs.Scripts.{report_of_script}
-use Rattle.gs_play.proofs.Calm.{scripts_are_calm}
-use Rattle.gs_play.proofs.FewLosses.{stops_for_memory}
-use Rattle.gs_play.proofs.Fitting.{fits}
+use Rattle.gs_calendar.proofs.Calm.{scripts_are_calm}
+use Rattle.gs_play.proofs.Stopping.{stops_for_memory}
+use Rattle.gs_calendar.proofs.Fitting.{fits}
 use Rattle.gs_play.proofs.Keeping.{scripts_keep}
 use Rattle.gs_play.proofs.Onward.{same_left}
 use Rattle.gs_play.proofs.playing.play_piece.Goals as goal

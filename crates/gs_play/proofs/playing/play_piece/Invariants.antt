@@ -1,7 +1,7 @@
 use Rattle.std.proofs.Common.{length}
-use Rattle.gs_world.specs.Nets.{net_of}
-use Rattle.gs_play.specs.Course.{course_of}
-use Rattle.gs_play.specs.Events.{events_of}
+use Rattle.gs_run.specs.Nets.{net_of}
+use Rattle.gs_calendar.specs.Course.{course_of}
+use Rattle.gs_calendar.specs.Events.{events_of}
 use Rattle.gs_play.specs.Running.{IsRunning}
 use Rattle.gs_play.proofs.playing.play_piece.Given as goal
 

@@ -4,11 +4,11 @@ use Rattle.std.proofs.lemmas.List.{with_items_is}
 use Rattle.gs_plan.specs.Plans.{graph_of}
 use Rattle.gs_plan.specs.declared.plan.Plan.{Plan}
 use Rattle.gs_level.specs.Tallies.{tally_of}
-use Rattle.gs_world.specs.Nets.{net_of}
+use Rattle.gs_run.specs.Nets.{net_of}
 use Rattle.gs_world.specs.Placed.{Placed}
-use Rattle.gs_world.specs.World.{clocks_in, world_at_start}
-use Rattle.gs_play.specs.Events.{nodes_of}
-use Rattle.gs_play.specs.Played.{start_of}
+use Rattle.gs_run.specs.World.{clocks_in, world_at_start}
+use Rattle.gs_calendar.specs.Events.{nodes_of}
+use Rattle.gs_calendar.specs.Scripts.{start_of}
 use Rattle.gs_play.proofs.Onward.{begins_running, zeros}
 use Rattle.gs_play.proofs.running.Running.start.Goals as goal
 

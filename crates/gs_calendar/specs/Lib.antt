@@ -1,0 +1,14 @@
+pub mod Course
+pub mod Calendar
+pub mod Losses
+pub mod Events
+pub mod Due
+pub mod Keys
+pub mod Transits
+pub mod Feeds
+pub mod Seen
+pub mod Breach
+pub mod Calm
+pub mod Scripts
+pub mod Stale
+pub mod Laws

@@ -1,6 +1,0 @@
-use Rattle.std.proofs.Common.{◌≡◌}
-use Rattle.gs_play.specs.Feeds.{ticks_left}
-use Rattle.gs_play.proofs.round.next_tick.Given as goal
-
-abbrev pub invariant-loop-v : goal.invariant-loop-v
-invariant-loop-v l = ticks_left l.t l.turns l.v ≡ ticks_left l.t l.turns l.at
