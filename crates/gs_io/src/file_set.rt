@@ -1,7 +1,10 @@
 ghost use Rattle.std.specs.Prelude.{◌≡◌, ◌≢◌, ℕ, ◌<◌, ◌≤◌, List, [], ◌∷◌, ◌++◌, length, map, string_bytes};
-ghost use Rattle.std.specs.Prelude.{Option, Some, None, IfSome, IsNone, IsSomeAnd, IfOk, OnOk, OnErr};
-ghost use Rattle.gs_io.specs.Causes.{Rose, counted};
-ghost use Rattle.gs_io.specs.Held.{Shelf, after_failed_read, after_read, failures, first_named, found};
+ghost use Rattle.std.specs.Prelude.{◌⊎◌, Option, Some, None, IfSome, IsNone, IsSomeAnd, IfOk, IfErr, IsTrue, OnOk, OnErr};
+ghost use Rattle.std.specs.IoError.{error_kind};
+ghost use Rattle.gs_io.specs.Causes.{Rose, counted, is_to_fail};
+ghost use Rattle.gs_io.specs.Adapters.{times_unread};
+ghost use Rattle.gs_io.specs.Held.{Shelf, after_failed_read, after_read, after_unrecorded_read};
+ghost use Rattle.gs_io.specs.Held.{failures, first_named, found, with_failure, with_unrecorded};
 
 use std::alloc::{AllocError, Global};
 use std::fs;
@@ -34,24 +37,29 @@ pub trait Files {
 
     /// The bytes of the file, of which there are at most `most`.
     fn read(&mut self, alloc: Global, name: &str, most: u64) -> Result<Vec<u8>, FileStop>
-        ensures bytes { IfOk result (λ bytes. IfSome (content self.old) (λ told. told name.now ≡ Some bytes.items)) }
+        ensures bytes { IfOk result
+            (λ bytes. IfSome (content self.old) (λ told. told name.now ≡ Some bytes.items)) }
         ensures at_most { IfOk result (λ bytes. length bytes.items ≤ most) }
         ensures too_long { result ≡ Err FileStop.TooLong
-            → IfSome (content self.old) (λ told. IsSomeAnd (told name.now) (λ bytes. most < length bytes)) }
-        ensures failed { result ≡ Err FileStop.Failed → Rose (faults self.old name.now) (faults self.new name.now) }
+            → IfSome (content self.old)
+            (λ told. IsSomeAnd (told name.now) (λ bytes. most < length bytes)) }
+        ensures failed { result ≡ Err FileStop.Failed
+            → Rose (faults self.old name.now) (faults self.new name.now) }
         ensures later { (other : List ℕ) → faults self.old other ≤ faults self.new other }
         ensures same { content self.new ≡ content self.old };
 }
 
 /// Files in memory. Of a name that is given twice the first counts. The reads whose numbers it was
-/// given, from 1, fail, and so does the reading of a name without a file; a failed read raises the
-/// count of its own name alone.
+/// given, from 1, fail, and so does the reading of a name without a file; neither is ever want of
+/// memory. A failed read raises the count of its own name alone. Names are kept for this as they
+/// fail, and where memory for one is refused, the failure counts for every name.
 #[derive(Drop)]
 pub struct MemFiles {
     files: Vec<(String, Vec<u8>)>,
     fails: Vec<u64>,
     calls: u64,
     failed: Vec<String>,
+    unrecorded: u64,
 }
 
 impl Model for MemFiles {
@@ -62,6 +70,7 @@ impl Model for MemFiles {
       fails = shelf.fails.items;
       calls = shelf.calls;
       failed = map string_bytes shelf.failed.items;
+      unrecorded = shelf.unrecorded;
     } };
 }
 
@@ -73,6 +82,7 @@ impl MemFiles {
           fails = fails.items;
           calls = 0;
           failed = [];
+          unrecorded = 0;
         } }
     {
         MemFiles {
@@ -80,6 +90,7 @@ impl MemFiles {
             fails,
             calls: 0,
             failed: Vec::new(alloc),
+            unrecorded: 0,
         }
     }
 
@@ -93,6 +104,16 @@ impl MemFiles {
         }
         first_of(&self.files, name)
     }
+
+    // Counts a failed read of this name, or of every name where the name finds no memory.
+    fn count_failure(&mut self, alloc: Global, name: &str)
+        ensures counted { (self.new ≡ with_failure self.old name.now) ⊎ (self.new ≡ with_unrecorded self.old) }
+        ensures later { self.old.unrecorded ≤ self.new.unrecorded }
+    {
+        if record(alloc, &mut self.failed, name).is_err() {
+            self.unrecorded = self.unrecorded.saturating_add(1);
+        }
+    }
 }
 
 impl Files for MemFiles {
@@ -101,21 +122,38 @@ impl Files for MemFiles {
     ghost faults = { failures };
 
     fn read(&mut self, alloc: Global, name: &str, most: u64) -> Result<Vec<u8>, FileStop>
-        ensures gives { IfOk result (λ bytes. found self.old (counted self.old.calls) name.now ≡ Some bytes.items) }
+        ensures gives { IfOk result
+            (λ bytes. found self.old (counted self.old.calls) name.now ≡ Some bytes.items) }
         ensures at_most { IfOk result (λ bytes. length bytes.items ≤ most) }
         ensures longer { result ≡ Err FileStop.TooLong
-            → IsSomeAnd (found self.old (counted self.old.calls) name.now) (λ bytes. most < length bytes) }
-        ensures nothing { result ≡ Err FileStop.Failed → found self.old (counted self.old.calls) name.now ≡ None }
-        ensures recorded { result ≡ Err FileStop.Failed → self.new ≡ after_failed_read self.old name.now }
-        ensures unrecorded { result ≢ Err FileStop.Failed → self.new ≡ after_read self.old }
-        ensures failed { result ≡ Err FileStop.Failed → Rose (failures self.old name.now) (failures self.new name.now) }
+            → IsSomeAnd (found self.old (counted self.old.calls) name.now)
+            (λ bytes. most < length bytes) }
+        ensures cut { IfSome (found self.old (counted self.old.calls) name.now)
+            (λ bytes. most < length bytes → result ≡ Err FileStop.TooLong) }
+        ensures nothing { result ≡ Err FileStop.Failed
+            → found self.old (counted self.old.calls) name.now ≡ None }
+        ensures named { IsTrue (is_to_fail self.old.fails (counted self.old.calls))
+            → result ≡ Err FileStop.Failed }
+        ensures missing { first_named self.old.files name.now ≡ None
+            → result ≡ Err FileStop.Failed }
+        ensures unfailed { result ≢ Err FileStop.Failed → self.new ≡ after_read self.old }
+        ensures recorded { result ≡ Err FileStop.Failed
+            → (self.new ≡ after_failed_read self.old name.now)
+            ⊎ (self.new ≡ after_unrecorded_read self.old) }
+        ensures failed { result ≡ Err FileStop.Failed
+            → Rose (failures self.old name.now) (failures self.new name.now) }
         ensures later { (other : List ℕ) → failures self.old other ≤ failures self.new other }
-        ensures alone { (other : List ℕ) → other ≢ name.now → failures self.new other ≡ failures self.old other }
+        ensures alone { (other : List ℕ) → other ≢ name.now
+            → (failures self.new other ≡ failures self.old other)
+            ⊎ (self.new ≡ after_unrecorded_read self.old) }
     {
         self.calls = self.calls.saturating_add(1);
         match self.found(name) {
             Some(bytes) => copy_of(alloc, bytes, most),
-            None => Err(failure(alloc, &mut self.failed, name)),
+            None => {
+                self.count_failure(alloc, name);
+                Err(FileStop::Failed)
+            }
         }
     }
 }
@@ -140,6 +178,7 @@ fn copy_of(alloc: Global, bytes: &[u8], most: u64) -> Result<Vec<u8>, FileStop>
     ensures bytes { IfOk result (λ copy. copy.items ≡ bytes.now) }
     ensures at_most { OnOk result (length bytes.now ≤ most) }
     ensures too_long { result ≡ Err FileStop.TooLong → most < length bytes.now }
+    ensures cut { most < length bytes.now → result ≡ Err FileStop.TooLong }
     ensures unfailed { (result ≡ Err FileStop.Failed) → ⊥ }
 {
     if bytes.len() as u64 > most {
@@ -148,19 +187,7 @@ fn copy_of(alloc: Global, bytes: &[u8], most: u64) -> Result<Vec<u8>, FileStop>
     Vec::from_slice(alloc, bytes).map_err(|_| FileStop::OutOfMemory)
 }
 
-// Records that the reading of this name failed.
-fn failure(alloc: Global, failed: &mut Vec<String>, name: &str) -> FileStop
-    ensures recorded { result ≡ FileStop.Failed
-        → map string_bytes failed.new.items ≡ map string_bytes failed.old.items ++ name.now ∷ [] }
-    ensures same { result ≡ FileStop.OutOfMemory → failed.new.items ≡ failed.old.items }
-    ensures never_long { (result ≡ FileStop.TooLong) → ⊥ }
-{
-    match record(alloc, failed, name) {
-        Ok(()) => FileStop::Failed,
-        Err(AllocError) => FileStop::OutOfMemory,
-    }
-}
-
+// Keeps the name of a failed read.
 fn record(alloc: Global, failed: &mut Vec<String>, name: &str) -> Result<(), AllocError>
     ensures ok { OnOk result (map string_bytes failed.new.items ≡ map string_bytes failed.old.items ++ name.now ∷ []) }
     ensures err { OnErr result (failed.new.items ≡ failed.old.items) }
@@ -192,23 +219,70 @@ impl<R: Disk> Files for OsFiles<R> {
     ghost faults = { λ files name. files.faults };
 
     /// Of a file that is too long one byte more than `most` is read.
-    fn read(&mut self, alloc: Global, name: &str, most: u64) -> Result<Vec<u8>, FileStop> {
-        match read_front(&self.disk, alloc, name, most.saturating_add(1)) {
-            Ok(bytes) if bytes.len() as u64 > most => Err(FileStop::TooLong),
-            Ok(bytes) => Ok(bytes),
-            Err(stop) if stop.kind() == ErrorKind::OutOfMemory => Err(FileStop::OutOfMemory),
-            Err(_) => {
-                self.faults = self.faults.saturating_add(1);
-                Err(FileStop::Failed)
-            }
+    fn read(&mut self, alloc: Global, name: &str, most: u64) -> Result<Vec<u8>, FileStop>
+        ensures at_most { IfOk result (λ bytes. length bytes.items ≤ most) }
+        ensures failed { result ≡ Err FileStop.Failed
+            → times_unread self.new ≡ counted (times_unread self.old) }
+        ensures unfailed { result ≢ Err FileStop.Failed
+            → times_unread self.new ≡ times_unread self.old }
+        ensures rose { result ≡ Err FileStop.Failed
+            → Rose (times_unread self.old) (times_unread self.new) }
+        ensures later { times_unread self.old ≤ times_unread self.new }
+    {
+        let read = read_opened(alloc, fs::open(&self.disk, name), most);
+        if let Err(FileStop::Failed) = read {
+            self.faults = self.faults.saturating_add(1);
         }
+        read
     }
 }
 
-// The first bytes of a file, at most so many.
-fn read_front<R: Disk>(disk: &R, alloc: Global, name: &str, most: u64) -> io::Result<Vec<u8>> {
-    let file = fs::open(disk, name)?;
+// All bytes of what was opened, if it was.
+pub(crate) fn read_opened<F: Read + Drop>(
+    alloc: Global,
+    opened: io::Result<F>,
+    most: u64,
+) -> Result<Vec<u8>, FileStop>
+    ensures bytes { IfOk opened (λ file.
+        IfOk result (λ bytes. IfSome (F.remaining file) (λ told. bytes.items ≡ told))) }
+    ensures at_most { IfOk result (λ bytes. length bytes.items ≤ most) }
+    ensures too_long { IfOk opened (λ file. result ≡ Err FileStop.TooLong
+        → IfSome (F.remaining file) (λ told. most < length told)) }
+    ensures memory { IfErr opened (λ fault.
+        error_kind fault ≡ ErrorKind.OutOfMemory → result ≡ Err FileStop.OutOfMemory) }
+    ensures failed { IfErr opened (λ fault.
+        error_kind fault ≢ ErrorKind.OutOfMemory → result ≡ Err FileStop.Failed) }
+{
+    match opened {
+        Ok(file) => read_all(alloc, file, most),
+        Err(fault) => Err(stop_at(&fault)),
+    }
+}
+
+// All bytes that a reader gives, of which there are at most `most`. It reads one more at most.
+fn read_all<F: Read + Drop>(alloc: Global, file: F, most: u64) -> Result<Vec<u8>, FileStop>
+    ensures bytes { IfOk result (λ bytes. IfSome (F.remaining file) (λ told. bytes.items ≡ told)) }
+    ensures at_most { IfOk result (λ bytes. length bytes.items ≤ most) }
+    ensures too_long { result ≡ Err FileStop.TooLong
+        → IfSome (F.remaining file) (λ told. most < length told) }
+{
     let mut bytes = Vec::new(alloc);
-    file.take(most).read_to_end(&mut bytes)?;
+    if let Err(fault) = file.take(most.saturating_add(1)).read_to_end(&mut bytes) {
+        return Err(stop_at(&fault));
+    }
+    if bytes.len() as u64 > most {
+        return Err(FileStop::TooLong);
+    }
     Ok(bytes)
+}
+
+// Want of memory goes by the kind of the fault alone.
+fn stop_at(fault: &io::Error) -> FileStop
+    ensures memory { error_kind fault.now ≡ ErrorKind.OutOfMemory → result ≡ FileStop.OutOfMemory }
+    ensures failed { error_kind fault.now ≢ ErrorKind.OutOfMemory → result ≡ FileStop.Failed }
+{
+    match fault.kind() {
+        ErrorKind::OutOfMemory => FileStop::OutOfMemory,
+        _ => FileStop::Failed,
+    }
 }

@@ -1,13 +1,14 @@
 ghost use Rattle.std.specs.Prelude.{◌≡◌, ◌==◌, ℕ, ◌<◌, ◌≤◌, List, [], ◌++◌, length, take, IsTrue};
-ghost use Rattle.std.specs.Prelude.{Option, Some, None, IfSome, IsErr, OnOk, OnErr};
+ghost use Rattle.std.specs.Prelude.{Option, Some, None, IfSome, IfOk, IsErr, OnOk, OnErr};
 ghost use Rattle.std.specs.Io.BufRead.{take_through};
 ghost use Rattle.std.specs.List.{position};
 ghost use Rattle.gs_io.specs.Causes.{HasCause, counted, is_to_fail};
 ghost use Rattle.gs_io.specs.Held.{Appends, AppendsFront, Written, after_failed_write, after_write};
+ghost use Rattle.gs_io.specs.Adapters.{times_failed, told_by};
 
 use crate::Failed;
 use std::alloc::Global;
-use std::io::{Stderr, Stdout, Write};
+use std::io::{ErrorKind, Stderr, Stdout, Write};
 use std::marker::Model;
 
 /// Where bytes go.
@@ -134,11 +135,22 @@ impl Sink for MemSink {
     }
 }
 
-/// A real stream, which tells nothing of what it holds.
+/// A stream of the process, or any other writer. It tells what the writer tells: the standard
+/// streams tell nothing.
 #[derive(Drop)]
 pub struct StdSink<W> {
     stream: W,
     faults: u64,
+}
+
+impl<W: Write> StdSink<W> {
+    /// A sink that writes to this writer.
+    pub fn new(stream: W) -> Self
+        ensures bytes { told_by W.contents result ≡ W.contents stream }
+        ensures faults { times_failed result ≡ 0 }
+    {
+        StdSink { stream, faults: 0 }
+    }
 }
 
 impl StdSink<Stdout> {
@@ -160,16 +172,62 @@ impl StdSink<Stderr> {
 }
 
 impl<W: Write> Sink for StdSink<W> {
-    ghost bytes = { λ sink. None };
+    ghost bytes = { λ sink. W.contents sink.stream };
 
     ghost faults = { λ sink. sink.faults };
 
     /// The piece is out, and not only in a buffer, where this is Ok.
-    fn write(&mut self, piece: &[u8]) -> Result<(), Failed> {
-        if self.stream.write_all(piece).is_err() || self.stream.flush().is_err() {
+    fn write(&mut self, piece: &[u8]) -> Result<(), Failed>
+        ensures ok { OnOk result
+            (Appends (told_by W.contents self.old) (told_by W.contents self.new) piece.now) }
+        ensures err { OnErr result
+            (AppendsFront (told_by W.contents self.old) (told_by W.contents self.new) piece.now) }
+        ensures passed { OnOk result (times_failed self.new ≡ times_failed self.old) }
+        ensures failed { OnErr result (times_failed self.new ≡ counted (times_failed self.old)) }
+        ensures cause { HasCause (times_failed self.old) (times_failed self.new) result }
+    {
+        let result = write_whole(&mut self.stream, piece);
+        if result.is_err() {
             self.faults = self.faults.saturating_add(1);
-            return Err(Failed);
         }
-        Ok(())
+        result
     }
+}
+
+// Writes a piece of any length, and has it leave each buffer.
+fn write_whole<W: Write>(stream: &mut W, piece: &[u8]) -> Result<(), Failed>
+    ensures ok { OnOk result (Appends (W.contents stream.old) (W.contents stream.new) piece.now) }
+    ensures err { OnErr result
+        (AppendsFront (W.contents stream.old) (W.contents stream.new) piece.now) }
+{
+    let mut rest = piece;
+    while !rest.is_empty() {
+        let taken = write_some(stream, rest)?;
+        rest = rest.split_at(taken).1;
+    }
+    stream.flush().map_err(|_| Failed)
+}
+
+// How many bytes of a piece one write took. A write that takes none has failed, and one that a
+// signal interrupts is tried again.
+fn write_some<W: Write>(stream: &mut W, piece: &[u8]) -> Result<usize, Failed>
+    ensures some { IfOk result (λ n. 0 < n) }
+    ensures at_most { IfOk result (λ n. n ≤ length piece.now) }
+    ensures ok { IfOk result
+        (λ n. Appends (W.contents stream.old) (W.contents stream.new) (take n piece.now)) }
+    ensures err { OnErr result
+        (AppendsFront (W.contents stream.old) (W.contents stream.new) piece.now) }
+{
+    for _ in 0..u64::MAX {
+        match stream.write(piece) {
+            Ok(0) => return Err(Failed),
+            Ok(taken) => return Ok(taken),
+            Err(fault) => {
+                if fault.kind() != ErrorKind::Interrupted {
+                    return Err(Failed);
+                }
+            }
+        }
+    }
+    Err(Failed)
 }

@@ -1,5 +1,11 @@
+ghost use Rattle.std.specs.Prelude.{Some};
+ghost use Rattle.std.specs.Io.{WritesAtMost};
+ghost use Rattle.std.specs.Io.KnownBytes.{WriteAppends};
+
 use super::*;
+use crate::file_set::read_opened;
 use std::alloc::{AllocError, Global};
+use std::io::{self, ErrorKind, Read, Write};
 use std::{env, fs, process};
 
 #[test]
@@ -26,6 +32,90 @@ fn lines_up_to_the_failed_write(rt: HostRuntime) -> Result<(), AllocError> {
     let mut fourth_fails = MemSink::new(alloc, vec![in alloc; 4]?);
     assert!(rt; write_lines(&mut fourth_fails, text) == Err(Failed));
     assert_eq!(rt; fourth_fails.bytes(), b"a 1\n\nb 2\n".as_slice());
+    Ok(())
+}
+
+/// What a writer does, a byte for each call: a digit takes so many bytes at most, `i` is an
+/// interruption, and any other byte a fault. After them it takes all.
+#[derive(Drop)]
+struct Turns<'a> {
+    left: &'a [u8],
+}
+
+impl Turns<'_> {
+    fn next_turn(&mut self) -> Result<usize, ErrorKind> {
+        let Some((turn, after)) = self.left.split_first() else {
+            return Ok(usize::MAX);
+        };
+        self.left = after;
+        match *turn {
+            b'0'..=b'9' => Ok((*turn - b'0') as usize),
+            b'i' => Err(ErrorKind::Interrupted),
+            _ => Err(ErrorKind::BrokenPipe),
+        }
+    }
+}
+
+#[derive(Drop)]
+struct Writer<'a> {
+    held: Vec<u8>,
+    turns: Turns<'a>,
+    flushes: bool,
+}
+
+impl Write for Writer<'_> {
+    ghost contents = { λ writer. Some writer.held.items };
+
+    fn write(&mut self, buf: &[u8]) -> io::Result<usize> {
+        match self.turns.next_turn() {
+            Ok(most) => put(&mut self.held, buf, most),
+            Err(kind) => Err(io::Error::from(kind)),
+        }
+    }
+
+    fn flush(&mut self) -> io::Result<()> {
+        if self.flushes {
+            Ok(())
+        } else {
+            Err(io::Error::from(ErrorKind::BrokenPipe))
+        }
+    }
+}
+
+/// Adds the bytes, at most so many, and tells how many.
+fn put(held: &mut Vec<u8>, bytes: &[u8], most: usize) -> io::Result<usize>
+    ensures bound { WritesAtMost result bytes.now }
+    ensures bytes { WriteAppends (Some held.old.items) (Some held.new.items) result bytes.now }
+{
+    let taken = bytes.len().min(most);
+    match held.extend_from_slice(&bytes[..taken]) {
+        Ok(()) => Ok(taken),
+        Err(AllocError) => Err(io::Error::from(ErrorKind::OutOfMemory)),
+    }
+}
+
+#[test]
+fn a_stream_has_a_front_of_its_piece(rt: HostRuntime) -> Result<(), AllocError> {
+    let alloc = rt.alloc();
+    for (turns, flushes, want, held) in [
+        ("", true, Ok(()), "piece"),
+        ("21i1", true, Ok(()), "piece"),
+        ("iii", true, Ok(()), "piece"),
+        ("2x", true, Err(Failed), "pi"),
+        ("30", true, Err(Failed), "pie"),
+        ("4", false, Err(Failed), "piece"),
+    ] {
+        let mut writer = Writer {
+            held: Vec::new(alloc),
+            turns: Turns {
+                left: turns.as_bytes(),
+            },
+            flushes,
+        };
+        let mut sink = StdSink::new(&mut writer);
+        assert!(rt; sink.write(b"piece") == want);
+        assert!(rt; writer.held.as_slice() == held.as_bytes());
+    }
     Ok(())
 }
 
@@ -79,6 +169,39 @@ fn files_in_memory(rt: HostRuntime) -> Result<(), AllocError> {
     Ok(())
 }
 
+/// A reader that has a fault at its first call, and then ends.
+#[derive(Drop)]
+struct Faulty {
+    fault: Option<ErrorKind>,
+}
+
+impl Read for Faulty {
+    fn read(&mut self, _buf: &mut [u8]) -> io::Result<usize> {
+        match self.fault.take() {
+            Some(kind) => Err(io::Error::from(kind)),
+            None => Ok(0),
+        }
+    }
+}
+
+#[test]
+fn a_reader_that_gives_its_bytes_in_parts(rt: HostRuntime) {
+    let alloc = rt.alloc();
+    for (kind, most, want) in [
+        (ErrorKind::Interrupted, 7, Ok(b"seven b".as_slice())),
+        (ErrorKind::Interrupted, 6, Err(FileStop::TooLong)),
+        (ErrorKind::BrokenPipe, 2, Err(FileStop::TooLong)),
+        (ErrorKind::BrokenPipe, 7, Err(FileStop::Failed)),
+        (ErrorKind::OutOfMemory, 7, Err(FileStop::OutOfMemory)),
+    ] {
+        let faulty = Faulty { fault: Some(kind) };
+        let reader = b"sev".as_slice().chain(faulty).chain(b"en b".as_slice());
+        assert!(rt; gave(read_opened(alloc, Ok(reader), most), want));
+    }
+    let missing = io::Result::<Faulty>::Err(io::Error::from(ErrorKind::NotFound));
+    assert!(rt; gave(read_opened(alloc, missing, 7), Err(FileStop::Failed)));
+}
+
 #[test]
 fn files_of_the_machine(rt: HostRuntime) -> Result<(), AllocError> {
     let alloc = rt.alloc();
@@ -98,12 +221,4 @@ fn files_of_the_machine(rt: HostRuntime) -> Result<(), AllocError> {
     assert!(rt; gave(no_file, Err(FileStop::Failed)));
     assert!(rt; gave(missing, Err(FileStop::Failed)));
     Ok(())
-}
-
-#[test]
-fn a_plain_gate_holds_nobody(rt: HostRuntime) {
-    let gate = PlainGate::new(&rt);
-    gate.enter(0);
-    gate.rest(1);
-    gate.leave(0);
 }

@@ -1,13 +1,18 @@
 use std::thread;
 use std::time::{Clock, Duration};
 
-/// What the threads of a run pass, so that a test can hold them there. It has no effect on anything
-/// that a contract speaks of.
+/// What the threads of a run pass. A test may hold it: it keeps a thread in a call until another
+/// thread has come to where the test wants it. Every call returns at last, and has no effect on
+/// anything that a contract speaks of.
+///
+/// A play calls `enter` and `leave` alone, both from the worker of the piece; `rest` is for the
+/// timer of a node that runs.
 pub trait Gate: Sync {
-    /// A worker begins with a piece.
+    /// A worker begins with a piece: called once for each piece, before its nodes start.
     fn enter(&self, piece: u32);
 
-    /// A worker is done with a piece.
+    /// A worker is done with a piece: called once for each piece, after its last event or where the
+    /// play stopped.
     fn leave(&self, piece: u32);
 
     /// A timer has nothing to do for so many units, each of a nanosecond.
