@@ -1,28 +1,12 @@
 //! gradsync: plans and plays networks of clocks from the command line.
 #![tactic(auto)]
 
-use crate::status::Status;
-use crate::tool::run_tool;
 use gs_io::{OsFiles, PlainGate, StdSink};
+use gs_tool::{Status, run_tool};
 use std::env;
 use std::io::{self, ErrorKind};
 use std::process::ExitCode;
 use std::rt::Env;
-
-mod command;
-mod plan_text;
-mod plans;
-#[cfg(test)]
-mod play_tests;
-mod plays;
-mod reading;
-mod reply;
-mod source;
-mod status;
-mod stop;
-#[cfg(test)]
-mod tests;
-mod tool;
 
 /// The words behind the program's name.
 fn words(rt: &(impl Env + AllocGlobal)) -> io::Result<Vec<String>> {

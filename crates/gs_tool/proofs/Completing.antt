@@ -1,0 +1,157 @@
+-- Where all inputs are at hand and accepted, a command gives the answer of its own.
+use Rattle.std.proofs.Common.{◌≡◌, ℕ, ◌<◌, inl, inr, true, false, List, length, Option, Some, None, Result, Ok, Err}
+use Rattle.std.proofs.Common.{IfSome, IsSomeAnd, arith, refl, sym, ◌∙◌, ap, subst}
+use Rattle.gs_io.specs.Causes.{Rose}
+use Rattle.gs_planfile.specs.declared.text.PlanText.{PlanText}
+use Rattle.gs_plan.specs.Plans.{text_of}
+use Rattle.gs_plan.specs.declared.plan.Plan.{Plan}
+use Rattle.gs_script.specs.Script.{Said}
+use Rattle.gs_calendar.specs.Scripts.{breach_of_script}
+use Rattle.gs_tool.specs.Answers.{Answer, Gives}
+use Rattle.gs_tool.specs.Commands.{Command}
+use Rattle.gs_tool.specs.Completeness.{Completes, HasPlan, HasScript, IsAtHand, IsCompleted}
+use Rattle.gs_tool.specs.Inputs.{AreNoInputs, IsAnswerOn, IsAnswerOver, IsNoPlan}
+use Rattle.gs_tool.specs.Plans.{plan_in}
+use Rattle.gs_tool.specs.Runs.{IsAnswer, IsCommandAnswer, IsMigrated, IsPlanned, IsPlayed, played}
+use Rattle.gs_tool.specs.Scripts.{script_in}
+use Rattle.gs_tool.specs.Sources.{FilesSeen, Source, Count, Text, IsRead, IsUnread}
+use Rattle.gs_tool.specs.declared.source.Kind.{Kind}
+use Rattle.gs_tool.specs.declared.source.Kind.TheVariants as kind
+use Rattle.gs_tool.specs.declared.status.Status.{Status}
+use Rattle.gs_tool.specs.declared.status.Status.TheVariants as status
+
+-- a result is one thing
+one_value : {T : Type 0} (read : Result T Answer) (a b : T) → read ≡ Ok a → read ≡ Ok b → a ≡ b
+one_value read a b one other = cc
+
+no_refusal : {T : Type 0} (read : Result T Answer) (a : T) (stop : Answer) → read ≡ Ok a → read ≡ Err stop → ⊥
+no_refusal read a stop one other = cc
+
+-- what is at hand is what was read
+same_source : (files : FilesSeen) (kind : Kind) (word : List ℕ) (here read : Source)
+    → IsAtHand files kind word here → IsRead files kind word read → here ≡ read
+same_source files kind word (Count n) (Count m) (built, is) (built_too, is_too) = ap Count (is ∙ sym is_too)
+same_source files kind word (Count n) (Text bytes) (built, is) (is_file, holds) =
+    absurd (let both : true ≡ false = sym built ∙ is_file in cc)
+same_source files kind word (Text bytes) (Count n) (told, is_file, tells, has, short, calm) (built, is) =
+    absurd (let both : true ≡ false = sym built ∙ is_file in cc)
+same_source files kind word (Text bytes) (Text read) (told, is_file, tells, has, short, calm) (is_file_too, (holds, short_too)) =
+    let said : told word ≡ Some read =
+    subst (λ (c : Option (List ℕ → Option (List ℕ))). IfSome c (λ told. told word ≡ Some read)) tells holds in
+    let one : Some bytes ≡ Some read = sym has ∙ said in
+    let same : bytes ≡ read = cc in ap Text same
+
+-- what is at hand was read
+never_unread : (files : FilesSeen) (kind : Kind) (word : List ℕ) (here : Source) (answer : Answer)
+    → IsAtHand files kind word here → IsUnread files kind word answer → ⊥
+never_unread files kind word (Count n) answer (built, is) (is_file, fault) =
+    let both : true ≡ false = sym built ∙ is_file in cc
+never_unread files kind word (Text bytes) answer (told, is_file, tells, has, short, calm) (is_file_too, fault) = elim fault [
+  | inl long ↦ (
+      let longer : IsSomeAnd (told word) (λ held. 1048576 < length held) =
+      subst (λ (c : Option (List ℕ → Option (List ℕ))). IfSome c (λ told. IsSomeAnd (told word) (λ held. 1048576 < length held)))
+      tells long.0 in
+      let over : 1048576 < length bytes = subst (λ (o : Option (List ℕ)). IsSomeAnd o (λ held. 1048576 < length held)) has longer in
+      omega arith
+      )
+  | inr failed ↦ calm failed.0
+]
+
+-- a plan at hand has its text
+same_plan : (files : FilesSeen) (word : List ℕ) (text found : PlanText) (source : Source)
+    → HasPlan files word text → IsRead files kind.Plan word source → plan_in source ≡ Ok found → found ≡ text
+same_plan files word text found source (here, at_hand, accepted) is_read is =
+    let same : here ≡ source = same_source files kind.Plan word here source at_hand is_read in
+    one_value (plan_in source) found text is (ap plan_in (sym same) ∙ accepted)
+
+-- and is not refused
+never_refused : (files : FilesSeen) (word : List ℕ) (text : PlanText) (source : Source) (answer : Answer)
+    → HasPlan files word text → IsRead files kind.Plan word source → plan_in source ≡ Err answer → ⊥
+never_refused files word text source answer (here, at_hand, accepted) is_read refused =
+    let same : here ≡ source = same_source files kind.Plan word here source at_hand is_read in
+    no_refusal (plan_in source) text answer (ap plan_in (sym same) ∙ accepted) refused
+
+same_script : (files : FilesSeen) (word : List ℕ) (text : PlanText) (said found : Said) (source : Source)
+    → HasScript files word text said → IsRead files kind.Script word source → script_in text source ≡ Ok found → found ≡ said
+same_script files word text said found source (here, at_hand, accepted) is_read is =
+    let same : here ≡ source = same_source files kind.Script word here source at_hand is_read in
+    one_value (script_in text source) found said is (ap (script_in text) (sym same) ∙ accepted)
+
+script_never_refused : (files : FilesSeen) (word : List ℕ) (text : PlanText) (said : Said) (source : Source) (answer : Answer)
+    → HasScript files word text said → IsRead files kind.Script word source → script_in text source ≡ Err answer → ⊥
+script_never_refused files word text said source answer (here, at_hand, accepted) is_read refused =
+    let same : here ≡ source = same_source files kind.Script word here source at_hand is_read in
+    no_refusal (script_in text source) said answer (ap (script_in text) (sym same) ∙ accepted) refused
+
+-- a command on a plan
+pub on_at_hand : (Is : Plan → Answer → Type 0) (files : FilesSeen) (word : List ℕ) (text : PlanText) (answer : Answer)
+    → HasPlan files word text → IsAnswerOn files word Is answer → (plan : Plan) × (text_of plan ≡ text) × Is plan answer
+on_at_hand Is files word text answer has (inl (plan, (source, is_read, accepted), is)) =
+    (plan, same_plan files word text (text_of plan) source has is_read accepted, is)
+on_at_hand Is files word text answer (here, at_hand, accepted) (inr (inl unread)) =
+    absurd (never_unread files kind.Plan word here answer at_hand unread)
+on_at_hand Is files word text answer has (inr (inr (source, is_read, refused))) =
+    absurd (never_refused files word text source answer has is_read refused)
+
+-- what keeps a command from inputs does not come
+inputs_at_hand : (files : FilesSeen) (plan_word script_word : List ℕ) (text : PlanText) (said : Said) (answer : Answer)
+    → HasPlan files plan_word text → HasScript files script_word text said
+    → AreNoInputs files plan_word script_word answer → ⊥
+inputs_at_hand files plan_word script_word text said answer (here, at_hand, accepted) has_script (inl unread) =
+    never_unread files kind.Plan plan_word here answer at_hand unread
+inputs_at_hand files plan_word script_word text said answer has_plan (here, at_hand, accepted) (inr (inl (read, unread))) =
+    never_unread files kind.Script script_word here answer at_hand unread
+inputs_at_hand files plan_word script_word text said answer has_plan has_script (inr (inr (inl (read, (source, is_read, refused))))) =
+    never_refused files plan_word text source answer has_plan is_read refused
+inputs_at_hand files plan_word script_word text said answer has_plan has_script
+    (inr (inr (inr (plan, (source, is_read, accepted), (told, is_told, refused))))) =
+    let same : text_of plan ≡ text = same_plan files plan_word text (text_of plan) source has_plan is_read accepted in
+    script_never_refused files script_word text said told answer has_script is_told
+    (subst (λ (t : PlanText). script_in t told ≡ Err answer) same refused)
+
+-- a command on a plan and a script
+pub over_at_hand : (Is : Plan → Said → Answer → Type 0) (files : FilesSeen) (plan_word script_word : List ℕ)
+    (text : PlanText) (said : Said) (answer : Answer) → HasPlan files plan_word text → HasScript files script_word text said
+    → IsAnswerOver files plan_word script_word Is answer → (plan : Plan) × (text_of plan ≡ text) × Is plan said answer
+over_at_hand Is files plan_word script_word text said answer has_plan has_script
+    (inl (plan, found, (source, is_read, accepted), (told, is_told, is_script), is)) =
+    let same : text_of plan ≡ text = same_plan files plan_word text (text_of plan) source has_plan is_read accepted in
+    let one : found ≡ said = same_script files script_word text said found told has_script is_told
+    (subst (λ (t : PlanText). script_in t told ≡ Ok found) same is_script) in
+    (plan, same, subst (λ (s : Said). Is plan s answer) one is)
+over_at_hand Is files plan_word script_word text said answer has_plan has_script (inr refused) =
+    absurd (inputs_at_hand files plan_word script_word text said answer has_plan has_script refused)
+
+-- an answer that is done is written, where the sink does not fail
+is_completed : (answer : Answer) (old new : Option (List ℕ)) (before after : ℕ) (ended : Status)
+    → answer.status ≡ status.Done → Gives answer old new before after ended → ¬ (Rose before after) → IsCompleted ended
+is_completed answer old new before after ended done gives calm = elim gives [
+  | inl whole ↦ inl (whole.0 ∙ done)
+  | inr cut ↦ absurd (calm cut.2)
+]
+
+-- A run that answers its words completes.
+pub answers_complete : (files : FilesSeen) (words : List (List ℕ)) (answer : Answer)
+    (old new : Option (List ℕ)) (before after : ℕ) (ended : Status)
+    → IsAnswer files words answer → Gives answer old new before after ended → Completes files words before after ended
+answers_complete files words answer old new before after ended answers gives = record {
+  plans = λ word text is_command has calm.
+      is_completed answer old new before after ended (elim is_command [
+        | inl is ↦ (
+            let (plan, same, planned) = on_at_hand IsPlanned files word text answer has
+            (subst (λ (c : Option Command). IsCommandAnswer files c answer) is answers) in
+            ap (λ (a : Answer). a.status) planned
+            )
+        | inr is ↦ (
+            let (plan, same, migrated) = on_at_hand IsMigrated files word text answer has
+            (subst (λ (c : Option Command). IsCommandAnswer files c answer) is answers) in
+            migrated.done
+            )
+      ]) gives calm;
+  plays = λ plan_word script_word text said is has_plan has_script unbreached calm.
+      let (plan, same, plays) = over_at_hand IsPlayed files plan_word script_word text said answer has_plan has_script
+      (subst (λ (c : Option Command). IsCommandAnswer files c answer) is answers) in
+      let is_report : answer ≡ played plan said None =
+      subst (λ (b : _). answer ≡ played plan said b) (unbreached plan same) plays in
+      is_completed answer old new before after ended (ap (λ (a : Answer). a.status) is_report) gives calm;
+}

@@ -1,0 +1,51 @@
+-- What a run does where nothing fails.
+use Rattle.std.specs.Prelude.{◌≡◌, ℕ, ◌≤◌, ◌⊎◌, false, List, length, Option, Some, None, Ok}
+use Rattle.gs_planfile.specs.declared.text.PlanText.{PlanText}
+use Rattle.gs_plan.specs.Plans.{text_of}
+use Rattle.gs_plan.specs.declared.plan.Plan.{Plan}
+use Rattle.gs_io.specs.Causes.{Rose}
+use Rattle.gs_script.specs.Script.{Said}
+use Rattle.gs_calendar.specs.Scripts.{breach_of_script}
+use Rattle.gs_tool.specs.Commands as command
+use Rattle.gs_tool.specs.Commands.{Migrate, Play, command_of}
+use Rattle.gs_tool.specs.Plans.{plan_in}
+use Rattle.gs_tool.specs.Scripts.{script_in}
+use Rattle.gs_tool.specs.Sources.{FilesSeen, Source, Count, Text, HasFailed, IsRead, is_built_in}
+use Rattle.gs_tool.specs.declared.source.Kind.{Kind}
+use Rattle.gs_tool.specs.declared.source.Kind.TheVariants as kind
+use Rattle.gs_tool.specs.declared.status.Status.{Status}
+use Rattle.gs_tool.specs.declared.status.Status.TheVariants.{Done, OutOfMemory}
+
+-- the word names this source, and nothing kept it: it is built in, or a file that is there, not too long, and of which
+-- no reading failed
+abbrev pub IsAtHand : FilesSeen → Kind → List ℕ → Source → Type 0
+IsAtHand files kind word (Count count) = IsRead files kind word (Count count)
+IsAtHand files kind word (Text bytes) =
+    (told : List ℕ → Option (List ℕ)) × (is_built_in kind word ≡ false)
+    × (files.content ≡ Some told) × (told word ≡ Some bytes) × (length bytes ≤ 1048576)
+    × ¬ (HasFailed files word)
+
+-- the word names an accepted plan of this text
+abbrev pub HasPlan : FilesSeen → List ℕ → PlanText → Type 0
+HasPlan files word text = (source : Source) × IsAtHand files kind.Plan word source × (plan_in source ≡ Ok text)
+
+-- the word names this script for plans of this text
+abbrev pub HasScript : FilesSeen → List ℕ → PlanText → Said → Type 0
+HasScript files word text said =
+    (source : Source) × IsAtHand files kind.Script word source × (script_in text source ≡ Ok said)
+
+-- all is written, or memory was short
+abbrev pub IsCompleted : Status → Type 0
+IsCompleted status = (status ≡ Done) ⊎ (status ≡ OutOfMemory)
+
+-- Where no count of the sink rose:
+pub record Completes (files : FilesSeen) (words : List (List ℕ)) (before after : ℕ) (status : Status) : Type 0 where
+  -- `plan` and `migrate` complete with an accepted plan,
+  pub plans : (word : List ℕ) (text : PlanText)
+      → (command_of words ≡ Some (command.Plan word)) ⊎ (command_of words ≡ Some (Migrate word))
+      → HasPlan files word text → ¬ (Rose before after) → IsCompleted status
+  -- and `play` by one worker with an accepted plan and a script for it that has no breach.
+  pub plays : (plan script : List ℕ) (text : PlanText) (said : Said) → command_of words ≡ Some (Play plan script 1)
+      → HasPlan files plan text → HasScript files script text said
+      → ((p : Plan) → text_of p ≡ text → breach_of_script p said ≡ None)
+      → ¬ (Rose before after) → IsCompleted status

@@ -1,0 +1,15 @@
+pub mod Answers
+pub mod Commands
+pub mod Completeness
+pub mod Headline
+pub mod Inputs
+pub mod Meaning
+pub mod PlanTexts
+pub mod Plans
+pub mod Reply
+pub mod Runs
+pub mod Scripts
+pub mod SourceSeen
+pub mod Sources
+pub mod Statuses
+pub mod Stops

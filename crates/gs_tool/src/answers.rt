@@ -1,0 +1,64 @@
+//! The answers to the commands, over inputs that were accepted: `docs/FORMATS.md`, "Commands", "The text of
+//! a plan" and "The text of a report".
+
+ghost use Rattle.std.specs.Prelude.{◌≡◌, IfOk};
+ghost use Rattle.gs_planfile.specs.Texts.{IsText};
+ghost use Rattle.gs_plan.specs.Plans.{text_of};
+ghost use Rattle.gs_play.specs.StopTexts.{stop_text};
+ghost use Rattle.gs_tool.specs.Answers.{line};
+ghost use Rattle.gs_tool.specs.Reply.{answer_in};
+ghost use Rattle.gs_tool.specs.Runs.{IsMigrated, IsPlanned, IsPlayed};
+
+use crate::plan_text::plan_text;
+use crate::reply::Reply;
+use crate::status::Status;
+use gs_io::Gate;
+use gs_plan::Plan;
+use gs_play::PlayStop;
+use gs_script::Script;
+use gs_text::Lines;
+use std::alloc::{AllocError, Global};
+
+/// The answer to `plan`.
+pub(crate) fn planned(alloc: Global, plan: &Plan) -> Result<Reply, AllocError>
+    ensures { IfOk result (λ reply. IsPlanned plan.now (answer_in reply)) }
+{
+    Ok(Reply::Text(Status::Done, plan_text(alloc, plan)?))
+}
+
+/// The answer to `migrate`.
+pub(crate) fn migrated(alloc: Global, plan: &Plan) -> Result<Reply, AllocError>
+    requires { IsText (text_of plan.now) }
+    ensures { IfOk result (λ reply. IsMigrated plan.now (answer_in reply)) }
+{
+    Ok(Reply::File(gs_planfile::migrate(alloc, plan.text())?))
+}
+
+/// The answer to `play` by one worker.
+#[tactic(auto, using(crate::proofs::Playing::playing))]
+pub(crate) fn played<G: Gate>(
+    alloc: Global,
+    plan: &Plan,
+    script: &Script,
+    gate: &G,
+) -> Result<Reply, AllocError>
+    requires { script.now.text ≡ text_of plan.now }
+    ensures { IfOk result (λ reply. IsPlayed plan.now script.now (answer_in reply)) }
+{
+    match gs_play::play(alloc, plan, script, 1, gate) {
+        Ok(report) => Ok(Reply::Text(Status::Done, report.text(alloc, plan)?)),
+        Err(PlayStop::OutOfMemory) => Err(AllocError),
+        Err(stop) => breach_line(alloc, &stop),
+    }
+}
+
+/// The line that a play stops with.
+fn breach_line(alloc: Global, stop: &PlayStop) -> Result<Reply, AllocError>
+    ensures { IfOk result (λ reply. answer_in reply ≡ line Status.Breach (stop_text stop.now)) }
+{
+    let words = stop.to_string(alloc)?;
+    let mut text = Lines::new(alloc);
+    text.word(words.as_str())?;
+    text.end()?;
+    Ok(Reply::Text(Status::Breach, text))
+}

@@ -1,0 +1,166 @@
+ghost use Rattle.std.specs.Prelude.{◌≡◌, ◌==◌, ◌⊎◌, map, string_bytes, true, Some, None, IsOk, IfOk};
+ghost use Rattle.gs_tool.specs.Commands.{command_of};
+ghost use Rattle.gs_tool.specs.Meaning.{meaning};
+ghost use Rattle.gs_tool.specs.Completeness.{Completes};
+ghost use Rattle.gs_tool.specs.Headline.{PlaysKeepBounds};
+ghost use Rattle.gs_tool.specs.Reply.{answer_in};
+ghost use Rattle.gs_tool.specs.Inputs.{IsAnswerOn, IsAnswerOver};
+ghost use Rattle.gs_tool.specs.Runs.{IsAnswer, IsCommandAnswer, IsMigrated, IsPlanned, IsPlayAnswer, IsPlayed};
+ghost use Rattle.gs_tool.specs.Runs.{Runs, names_no_file, plays_no_file};
+ghost use Rattle.gs_tool.specs.Sources.{is_built_in, seen};
+ghost use Rattle.gs_tool.specs.Stops.{EndsWith};
+
+use crate::answers::{migrated, planned, played};
+use crate::command::{Command, command_of};
+use crate::inputs::{read_inputs, read_plan};
+use crate::reply::Reply;
+use crate::source::Kind;
+use crate::status::Status;
+use crate::stop::Stop;
+use gs_io::{Files, Gate, Sink};
+use std::alloc::Global;
+
+const USAGE: &str = "usage: gradsync plan, play, trace, audit, replay, gen or node\n";
+
+const UNBUILT: &str = "not built\n";
+
+/// Does what the words of a command line ask for, and writes the answer to `out`, a text one line a
+/// write and a file in one. It waits for nobody. See `docs/FORMATS.md`, "Commands", "Statuses" and
+/// "Fault lines".
+pub fn run_tool<F: Files, K: Sink, G: Gate>(
+    alloc: Global,
+    words: &[String],
+    files: &mut F,
+    out: &mut K,
+    gate: &G,
+) -> Status
+    ensures runs { Runs (seen (F.content files.old) (F.faults files.old) (F.faults files.new))
+        (map string_bytes words.now) (K.bytes out.old) (K.bytes out.new) (K.faults out.old) (K.faults out.new) result }
+
+    // With accepted inputs, no breach and no fault of the outside, the job is done or memory was short.
+    ensures completes { Completes (seen (F.content files.old) (F.faults files.old) (F.faults files.new))
+        (map string_bytes words.now) (K.faults out.old) (K.faults out.new) result }
+
+    // A play that is done keeps the bounds of its plan, and so does its report.
+    ensures bounds { PlaysKeepBounds (seen (F.content files.old) (F.faults files.old) (F.faults files.new))
+        (map string_bytes words.now) (K.bytes out.old) (K.bytes out.new) result }
+
+    ensures untouched { names_no_file (command_of (map string_bytes words.now)) ≡ true → files.new ≡ files.old }
+
+    // Words that are no command need no memory.
+    ensures usage { command_of (map string_bytes words.now) ≡ None
+        → (result ≡ Status.Usage) ⊎ (result ≡ Status.WriteFault) }
+{
+    match answer(alloc, words, files, gate) {
+        Ok(reply) => reply.write(out),
+        Err(Stop::Refused(reply)) => reply.write(out),
+        Err(Stop::OutOfMemory) => Status::OutOfMemory,
+    }
+}
+
+/// The answer to the words of a command line.
+fn answer<F: Files, G: Gate>(
+    alloc: Global,
+    words: &[String],
+    files: &mut F,
+    gate: &G,
+) -> Result<Reply, Stop>
+    ensures answer { EndsWith
+        (IsAnswer (seen (F.content files.old) (F.faults files.old) (F.faults files.new)) (map string_bytes words.now))
+        result }
+    ensures untouched { names_no_file (command_of (map string_bytes words.now)) ≡ true → files.new ≡ files.old }
+    ensures usage { command_of (map string_bytes words.now) ≡ None
+        → IfOk result (λ reply. (answer_in reply).status ≡ Status.Usage) × IsOk result }
+{
+    match command_of(words) {
+        None => Ok(Reply::Line(Status::Usage, USAGE)),
+        Some(command) => answer_to(alloc, command, files, gate),
+    }
+}
+
+/// The answer to a command.
+fn answer_to<F: Files, G: Gate>(
+    alloc: Global,
+    command: Command<'_>,
+    files: &mut F,
+    gate: &G,
+) -> Result<Reply, Stop>
+    ensures answer { EndsWith
+        (IsCommandAnswer (seen (F.content files.old) (F.faults files.old) (F.faults files.new))
+        (Some (meaning command.entry)))
+        result }
+    ensures untouched { names_no_file (Some (meaning command.entry)) ≡ true → files.new ≡ files.old }
+{
+    match command {
+        Command::Plan { plan } => plan_answer(alloc, files, plan),
+        Command::Migrate { plan } => migrate_answer(alloc, files, plan),
+        Command::Play {
+            plan,
+            script,
+            workers,
+        } => play_answer(alloc, files, plan, script, workers, gate),
+        _ => Ok(Reply::Line(Status::Unbuilt, UNBUILT)),
+    }
+}
+
+/// The answer to `plan PLAN`.
+fn plan_answer<F: Files>(alloc: Global, files: &mut F, word: &str) -> Result<Reply, Stop>
+    ensures answer { EndsWith
+        (IsAnswerOn (seen (F.content files.old) (F.faults files.old) (F.faults files.new)) word.now IsPlanned)
+        result }
+    ensures untouched { is_built_in Kind.Plan word.now ≡ true → files.new ≡ files.old }
+{
+    let plan = read_plan(alloc, files, word)?;
+    Ok(planned(alloc, &plan)?)
+}
+
+/// The answer to `migrate PLAN`.
+fn migrate_answer<F: Files>(alloc: Global, files: &mut F, word: &str) -> Result<Reply, Stop>
+    ensures answer { EndsWith
+        (IsAnswerOn (seen (F.content files.old) (F.faults files.old) (F.faults files.new)) word.now IsMigrated)
+        result }
+    ensures untouched { is_built_in Kind.Plan word.now ≡ true → files.new ≡ files.old }
+{
+    let plan = read_plan(alloc, files, word)?;
+    Ok(migrated(alloc, &plan)?)
+}
+
+/// The answer to `play PLAN SCRIPT WORKERS`.
+fn play_answer<F: Files, G: Gate>(
+    alloc: Global,
+    files: &mut F,
+    plan: &str,
+    script: &str,
+    workers: u32,
+    gate: &G,
+) -> Result<Reply, Stop>
+    ensures answer { EndsWith
+        (IsPlayAnswer (seen (F.content files.old) (F.faults files.old) (F.faults files.new))
+        plan.now script.now (workers == 1))
+        result }
+    ensures untouched { plays_no_file plan.now script.now (workers == 1) ≡ true → files.new ≡ files.old }
+{
+    if workers == 1 {
+        play_alone(alloc, files, plan, script, gate)
+    } else {
+        Ok(Reply::Line(Status::Unbuilt, UNBUILT))
+    }
+}
+
+/// The answer to `play PLAN SCRIPT 1`.
+fn play_alone<F: Files, G: Gate>(
+    alloc: Global,
+    files: &mut F,
+    plan: &str,
+    script: &str,
+    gate: &G,
+) -> Result<Reply, Stop>
+    ensures answer { EndsWith
+        (IsAnswerOver (seen (F.content files.old) (F.faults files.old) (F.faults files.new))
+        plan.now script.now IsPlayed)
+        result }
+    ensures untouched { plays_no_file plan.now script.now true ≡ true → files.new ≡ files.old }
+{
+    let inputs = read_inputs(alloc, files, plan, script)?;
+    Ok(played(alloc, &inputs.plan, &inputs.script, gate)?)
+}
