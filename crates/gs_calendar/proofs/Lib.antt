@@ -25,3 +25,4 @@ pub mod Feeding
 pub mod Beginning
 pub mod Stepping
 pub mod Keyed
+pub mod Stopping

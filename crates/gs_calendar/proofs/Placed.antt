@@ -20,12 +20,12 @@ greater : (a b : ℕ) → b < a → nat_cmp a b ≡ Greater
 greater a b h = rw (le-ltb a b (omega arith), ne_eqb a b (λ e. omega arith))
 
 -- a key stands before another, is the same, or stands behind it
-data Stands (x y : Key) : Type 0 where
+pub data Stands (x y : Key) : Type 0 where
   ahead : key_cmp x y ≡ Less → Before x y → Stands x y
   level : key_cmp x y ≡ Equal → x ≡ y → Stands x y
   behind : key_cmp x y ≡ Greater → Before y x → Stands x y
 
-stands : (x y : Key) → Stands x y
+pub stands : (x y : Key) → Stands x y
 unfolding Before
 stands x y = elim (cases_order x.due y.due) [
   | inr d ↦ elim d [

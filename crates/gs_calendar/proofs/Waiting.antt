@@ -139,9 +139,9 @@ abbrev pub AreSlow : Net → Course → ℕ → Type 0
 AreSlow net c v = (from t : ℕ) → Has from (neighbours net v) → 1 ≤ c.delay from v t
 
 -- what is due is what comes
-pub transit_due : (net : Net) (c : Course) (v t : ℕ) (ks : List Key) → AreSlow net c v → IsTransit net c v (suc t) t ks
+pub covering_due : (net : Net) (c : Course) (v t : ℕ) (ks : List Key) → AreSlow net c v → IsCovering net c v t ks
     → due_by (suc t) ks ≡ keys_all (suc t) (λ from. arrivals net c from v (suc t)) (neighbours net v)
-transit_due net c v t ks slow is =
+covering_due net c v t ks slow is =
     let come : ℕ → List (ℕ × ℕ) = λ from. coming net c from v (suc t) t in
     same_by_has (due_by (suc t) ks) (keys_all (suc t) come (neighbours net v)) (by_in_order (suc t) ks is.order)
     (all_in_order (suc t) come (neighbours net v) (ascending (net.adjacent v) 0 net.nodes) (λ x. coming_rises net c x v (suc t) t))
@@ -177,7 +177,18 @@ unfolding keys_all
 all_deliver to t come [] = refl
 all_deliver to t come (from ∷ fs) = deliver_more to (keys_from t from (come from)) (keys_all t come fs) ∙ rw (from_delivers to t from (come from), all_deliver to t come fs)
 
+-- what is due in the next quantum, delivered, is what the events say, whatever of that quantum's own beacons is there
+pub covering_deliveries : (net : Net) (c : Course) (v t : ℕ) (ks : List Key) → AreSlow net c v → IsCovering net c v t ks
+    → deliver_all v (due_by (suc t) ks) ≡ deliveries_to net c (suc t) v
+covering_deliveries net c v t ks slow is =
+    ap (λ (xs : List Key). deliver_all v xs) (covering_due net c v t ks slow is)
+    ∙ all_deliver v (suc t) (λ from. arrivals net c from v (suc t)) (neighbours net v)
+
+-- all that is in transit covers
+full_covers : (net : Net) (c : Course) (v t : ℕ) (ks : List Key) → IsTransit net c v (suc t) t ks → IsCovering net c v t ks
+full_covers net c v t ks is = record { order = is.order; only = is.only; all = λ k it. is.all k (in_later net c v t t k it) }
+
 -- what is due in the next quantum, delivered, is what the events say
-pub next_deliveries : (net : Net) (c : Course) (v t : ℕ) (ks : List Key) → AreSlow net c v → IsTransit net c v (suc t) t ks → deliver_all v (due_by (suc t) ks) ≡ deliveries_to net c (suc t) v
-next_deliveries net c v t ks slow is =
-    ap (λ (xs : List Key). deliver_all v xs) (transit_due net c v t ks slow is) ∙ all_deliver v (suc t) (λ from. arrivals net c from v (suc t)) (neighbours net v)
+pub next_deliveries : (net : Net) (c : Course) (v t : ℕ) (ks : List Key) → AreSlow net c v → IsTransit net c v (suc t) t ks
+    → deliver_all v (due_by (suc t) ks) ≡ deliveries_to net c (suc t) v
+next_deliveries net c v t ks slow is = covering_deliveries net c v t ks slow (full_covers net c v t ks is)

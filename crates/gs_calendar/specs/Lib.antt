@@ -12,3 +12,5 @@ pub mod Calm
 pub mod Scripts
 pub mod Stale
 pub mod Laws
+pub mod Stops
+pub mod StopTexts

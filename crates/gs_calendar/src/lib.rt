@@ -5,11 +5,13 @@
 
 pub use feed::Feed;
 pub use laws::{few_losses_never_breach, scripts_are_calm};
+pub use stop::PlayStop;
 
 mod feed;
 mod laws;
 mod round;
 mod sending;
+mod stop;
 #[cfg(test)]
 mod tests;
 mod transit;

@@ -1,4 +1,3 @@
 pub mod OneEvent
 pub mod Onward
 pub mod Keeping
-pub mod Stopping

@@ -19,11 +19,11 @@ use Rattle.gs_calendar.specs.Breach.{Breach, breach_in, first_breach}
 use Rattle.gs_calendar.specs.Calm.{Calm, IsCalm}
 use Rattle.gs_calendar.specs.Scripts.{start_of}
 use Rattle.gs_play.specs.Running.{IsRunning}
-use Rattle.gs_play.specs.Stops.{StopsAt}
+use Rattle.gs_calendar.specs.Stops.{StopsAt}
 use Rattle.gs_play.specs.UnderWay.{IsUnderWay}
 use Rattle.gs_play.specs.declared.running.Running.{Running}
-use Rattle.gs_play.specs.declared.stop.PlayStop.{PlayStop}
-use Rattle.gs_play.specs.declared.stop.PlayStop.TheVariants.{Stale, OutOfMemory}
+use Rattle.gs_calendar.specs.declared.stop.PlayStop.{PlayStop}
+use Rattle.gs_calendar.specs.declared.stop.PlayStop.TheVariants.{Stale, OutOfMemory}
 use Rattle.gs_play.proofs.OneEvent.{IsNoQuantum, play_begins, takes_quantum, takes_other}
 
 -- all readings are 0

@@ -3,5 +3,3 @@ pub mod Scripts
 pub mod Headline
 pub mod UnderWay
 pub mod Running
-pub mod Stops
-pub mod StopTexts

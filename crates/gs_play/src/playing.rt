@@ -5,11 +5,10 @@ ghost use Rattle.gs_play.specs.Headline.{PlayKeepsBounds};
 ghost use Rattle.gs_calendar.specs.Losses.{LosesFew};
 ghost use Rattle.gs_calendar.specs.Scripts.{breach_of_script};
 ghost use Rattle.gs_play.specs.Scripts.{report_of_script};
-ghost use Rattle.gs_play.specs.Stops.{StopsAt};
+ghost use Rattle.gs_calendar.specs.Stops.{StopsAt};
 
 use crate::running::Running;
-use crate::stop::PlayStop;
-use gs_calendar::Feed;
+use gs_calendar::{Feed, PlayStop};
 use gs_gate::Gate;
 use gs_level::Report;
 use gs_plan::Plan;

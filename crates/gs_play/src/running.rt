@@ -10,9 +10,9 @@ ghost use Rattle.gs_calendar.specs.Breach.{breach_in, first_breach};
 ghost use Rattle.gs_calendar.specs.Calm.{IsCalm, Calm};
 ghost use Rattle.gs_world.specs.RunReports.{report_in};
 ghost use Rattle.gs_calendar.specs.Scripts.{start_of};
-ghost use Rattle.gs_play.specs.Stops.{StopsAt};
+ghost use Rattle.gs_calendar.specs.Stops.{StopsAt};
 
-use crate::stop::PlayStop;
+use gs_calendar::PlayStop;
 use gs_core::Event;
 use gs_level::{Report, Tally};
 use gs_plan::Plan;

@@ -13,7 +13,7 @@ use Rattle.gs_calendar.specs.Scripts.{start_of}
 use Rattle.gs_play.specs.Running.{IsRunning}
 use Rattle.gs_play.specs.Scripts.{report_of_script}
 use Rattle.gs_calendar.proofs.Calm.{scripts_are_calm}
-use Rattle.gs_play.proofs.Stopping.{stops_for_memory}
+use Rattle.gs_calendar.proofs.Stopping.{stops_for_memory}
 use Rattle.gs_calendar.proofs.Fitting.{fits}
 use Rattle.gs_play.proofs.Keeping.{scripts_keep}
 use Rattle.gs_play.proofs.Onward.{same_left}

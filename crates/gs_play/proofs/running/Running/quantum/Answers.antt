@@ -7,7 +7,7 @@ use Rattle.gs_plan.specs.Plans.{graph_of}
 use Rattle.gs_level.specs.Tallies.{tally_of}
 use Rattle.gs_run.specs.Nets.{net_of}
 use Rattle.gs_calendar.specs.Breach.{breach_in}
-use Rattle.gs_play.specs.Stops.{StopsAt}
+use Rattle.gs_calendar.specs.Stops.{StopsAt}
 use Rattle.gs_play.proofs.Onward.{first_is_calm, quantum_goes_on, stops_at_first}
 use Rattle.gs_play.proofs.running.Running.quantum.Goals as goal
 

@@ -1,8 +1,8 @@
 -- The words for why a play ends with no report.
 use Rattle.std.specs.Prelude.{ℕ, List, ◌++◌, codes, decimal}
 use Rattle.gs_calendar.specs.Breach.{Breach}
-use Rattle.gs_play.specs.declared.stop.PlayStop.{PlayStop}
-use Rattle.gs_play.specs.declared.stop.PlayStop.TheVariants.{Stale, OutOfMemory}
+use Rattle.gs_calendar.specs.declared.stop.PlayStop.{PlayStop}
+use Rattle.gs_calendar.specs.declared.stop.PlayStop.TheVariants.{Stale, OutOfMemory}
 
 -- a breach: its quantum, and whose news is too old for whom
 abbrev pub breach_text : Breach → List ℕ

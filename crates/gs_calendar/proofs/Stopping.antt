@@ -7,9 +7,9 @@ use Rattle.gs_script.specs.Script.{Said, IsScript}
 use Rattle.gs_calendar.specs.Losses.{LosesFew}
 use Rattle.gs_calendar.proofs.FewLosses.{few_losses}
 use Rattle.gs_calendar.specs.Scripts.{breach_of_script}
-use Rattle.gs_play.specs.Stops.{StopsAt}
-use Rattle.gs_play.specs.declared.stop.PlayStop.{PlayStop}
-use Rattle.gs_play.specs.declared.stop.PlayStop.TheVariants.{Stale, OutOfMemory}
+use Rattle.gs_calendar.specs.Stops.{StopsAt}
+use Rattle.gs_calendar.specs.declared.stop.PlayStop.{PlayStop}
+use Rattle.gs_calendar.specs.declared.stop.PlayStop.TheVariants.{Stale, OutOfMemory}
 
 -- so a play of it stops for want of memory alone
 pub stops_for_memory : (p : Plan) (s : Said) (stop : PlayStop) → s.text ≡ text_of p → IsScript s → LosesFew p s

@@ -1,5 +1,5 @@
 ghost use Rattle.std.specs.Prelude.{◌≡◌};
-ghost use Rattle.gs_play.specs.declared.stop.PlayStop.TheVariants.{OutOfMemory};
+ghost use Rattle.gs_calendar.specs.declared.stop.PlayStop.TheVariants.{OutOfMemory};
 
 use std::alloc::AllocError;
 use std::error::Error;
@@ -17,7 +17,7 @@ pub enum PlayStop {
 
 impl fmt::Display for PlayStop {
     ghost use Rattle.std.specs.Prelude.{Some};
-    ghost use Rattle.gs_play.specs.StopTexts.{stop_text};
+    ghost use Rattle.gs_calendar.specs.StopTexts.{stop_text};
 
     ghost output = { λ stop. Some (stop_text stop) };
 

@@ -1,0 +1,5 @@
+pub mod Onward
+pub mod Staging
+pub mod Fields
+pub mod Keeping
+pub mod Reports

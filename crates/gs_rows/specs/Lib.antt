@@ -1,0 +1,7 @@
+pub mod Row
+pub mod Stage
+pub mod Steady
+pub mod Laws
+pub mod Taken
+pub mod Onward
+pub mod Seen
