@@ -1,0 +1,3 @@
+pub mod External
+pub mod Beginning
+pub mod Running

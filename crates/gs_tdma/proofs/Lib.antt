@@ -1,0 +1,4 @@
+pub mod Guarding
+pub mod Colouring
+pub mod Turning
+pub mod Counting

@@ -1,0 +1,19 @@
+-- Why there is no slot plan of this reach and slot.
+use Rattle.std.specs.Prelude.{ℕ, List, ◌*◌, ◌^◌, ◌||◌, nat_le, nat_lt, Option, Some, None, codes, if◌then◌else◌}
+use Rattle.gs_plan.specs.declared.plan.Plan.{Plan}
+use Rattle.gs_tdma.specs.Near.{guard_in}
+use Rattle.gs_tdma.specs.declared.fault.SlotFault.{SlotFault}
+use Rattle.gs_tdma.specs.declared.fault.SlotFault.TheVariants as fault
+
+-- a reach is 1 to 4
+abbrev pub slot_fault : Plan → ℕ → ℕ → Option SlotFault
+slot_fault p reach slot =
+    if nat_lt reach 1 || nat_lt 4 reach then Some fault.Reach
+    else if nat_le slot (2 * guard_in p reach) || nat_le (2 ^ 48) slot then Some fault.Slot
+    else None
+
+-- the words for it
+abbrev pub fault_text : SlotFault → List ℕ
+fault_text fault.Reach = codes "reach"
+fault_text fault.Slot = codes "slot"
+fault_text fault.OutOfMemory = codes "out of memory"

@@ -1,0 +1,5 @@
+pub mod Near
+pub mod Slots
+pub mod Laws
+pub mod Faults
+pub mod Kept
