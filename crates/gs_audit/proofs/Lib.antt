@@ -1,0 +1,4 @@
+pub mod OneEvent
+pub mod Onward
+pub mod Exact
+pub mod NodeSteps

@@ -1,0 +1,12 @@
+pub mod Choices
+pub mod Spelled
+pub mod EventsInTurn
+pub mod Scanning
+pub mod Traces
+pub mod Answered
+pub mod WorldEvents
+pub mod WorldHeads
+pub mod WorldTraces
+pub mod NodeEvents
+pub mod NodeHeads
+pub mod NodeTraces

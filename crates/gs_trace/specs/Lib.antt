@@ -1,0 +1,13 @@
+pub mod Numbers
+pub mod Starts
+pub mod Formats
+pub mod Worlds
+pub mod Nodes
+pub mod Scans
+pub mod Seen
+pub mod NodeSeen
+pub mod Fronts
+pub mod Firsts
+pub mod Reads
+pub mod Words
+pub mod Laws
