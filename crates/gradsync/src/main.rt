@@ -1,8 +1,12 @@
-//! gradsync: plans and plays networks of clocks from the command line.
+//! gradsync: plans and plays networks of clocks, and issues stamps, from the command line.
 #![tactic(auto)]
 
+use gs_cli::Status;
+use gs_clock::MonoClock;
 use gs_io::{OsFiles, PlainGate, StdSink};
-use gs_tool::{Status, run_tool};
+use gs_stamp::FileStore;
+use gs_stamp_run::run_stamp;
+use gs_tool::run_tool;
 use std::env;
 use std::io::{self, ErrorKind};
 use std::process::ExitCode;
@@ -14,6 +18,28 @@ fn words(rt: &(impl Env + AllocGlobal)) -> io::Result<Vec<String>> {
     Ok(words)
 }
 
+/// Runs a command over the real files, the standard output and a gate that holds nobody.
+fn tool(rt: &HostRuntime, words: &[String]) -> Status {
+    let mut files = OsFiles::new(rt);
+    let mut out = StdSink::output(rt.stdout());
+    let gate = PlainGate::new(rt);
+    run_tool(rt.alloc(), words, &mut files, &mut out, &gate)
+}
+
+/// Issues stamps from a real file, at the readings of the monotonic clock.
+fn stamp(rt: &HostRuntime, words: &[String]) -> Status {
+    let name = match words {
+        [_stamp, file, _count] => file.as_str(),
+        // They are no command, and no file is opened.
+        _ => "",
+    };
+    let Ok(store) = FileStore::new(rt.alloc(), rt, name) else {
+        return Status::OutOfMemory;
+    };
+    let mut out = StdSink::output(rt.stdout());
+    run_stamp(rt.alloc(), words, store, MonoClock::new(rt), &mut out).status
+}
+
 fn main(rt: HostRuntime) -> ExitCode {
     let words = match words(&rt) {
         Ok(words) => words,
@@ -23,9 +49,9 @@ fn main(rt: HostRuntime) -> ExitCode {
         // Words that are not UTF-8 are no command.
         Err(_) => Vec::new(rt.alloc()),
     };
-    let mut files = OsFiles::new(&rt);
-    let mut out = StdSink::output(rt.stdout());
-    let gate = PlainGate::new(&rt);
-    let status = run_tool(rt.alloc(), &words, &mut files, &mut out, &gate);
+    let status = match words.first() {
+        Some(word) if word.as_str() == "stamp" => stamp(&rt, &words),
+        _ => tool(&rt, &words),
+    };
     ExitCode::from(status.code())
 }

@@ -1,31 +1,39 @@
 -- Where all inputs are at hand and accepted, a command gives the answer of its own.
-use Rattle.std.proofs.Common.{◌≡◌, ℕ, ◌<◌, inl, inr, true, false, List, length, Option, Some, None, Result, Ok, Err}
-use Rattle.std.proofs.Common.{IfSome, IsSomeAnd, arith, refl, sym, ◌∙◌, ap, subst}
+use Rattle.std.proofs.Common.{◌≡◌, ℕ, ◌<◌, inl, inr, ◌==◌, Bool, true, false, List, length, Option, Some, None, Ok, Err}
+use Rattle.std.proofs.Common.{IfSome, IsSomeAnd, arith, sym, ◌∙◌, ap, subst}
+use Rattle.std.proofs.lemmas.Bool.{eq-eqb}
+use Rattle.std.proofs.lemmas.Result.{IfOk-at_ok}
 use Rattle.gs_io.specs.Causes.{Rose}
 use Rattle.gs_planfile.specs.declared.text.PlanText.{PlanText}
 use Rattle.gs_plan.specs.Plans.{text_of}
 use Rattle.gs_plan.specs.declared.plan.Plan.{Plan}
 use Rattle.gs_script.specs.Script.{Said}
+use Rattle.gs_calendar.specs.Breach.{Breach}
+use Rattle.gs_calendar.specs.Feeds.{IsReadFor}
+use Rattle.gs_calendar.specs.Losses.{LosesFew}
 use Rattle.gs_calendar.specs.Scripts.{breach_of_script}
-use Rattle.gs_tool.specs.Answers.{Answer, Gives}
-use Rattle.gs_tool.specs.Commands.{Command}
-use Rattle.gs_tool.specs.Completeness.{Completes, HasPlan, HasScript, IsAtHand, IsCompleted}
-use Rattle.gs_tool.specs.Inputs.{AreNoInputs, IsAnswerOn, IsAnswerOver, IsNoPlan}
+use Rattle.gs_calendar.proofs.FewLosses.{few_losses}
+use Rattle.gs_tdma.specs.Faults.{slot_fault}
+use Rattle.gs_cli.specs.Answers.{Answer, Gives}
+use Rattle.gs_tool.specs.Commands as command
+use Rattle.gs_tool.specs.Commands.{Command, command_of}
+use Rattle.gs_tool.specs.Completeness.{Completes, HasPlan, HasScript, IsAtHand, IsCompleted, Plays}
+use Rattle.gs_tool.specs.Inputs.{AreNoInputs, IsAnswerOn, IsAnswerOver}
+use Rattle.gs_tool.specs.Orders.{ordered}
 use Rattle.gs_tool.specs.Plans.{plan_in}
-use Rattle.gs_tool.specs.Runs.{IsAnswer, IsCommandAnswer, IsMigrated, IsPlanned, IsPlayed, played}
+use Rattle.gs_tool.specs.Runs.{IsAnswer, IsCommandAnswer, IsMigrated, IsPlanned, IsPlayAnswer, IsSlotted, IsSlottedOr, IsTold, played, told}
 use Rattle.gs_tool.specs.Scripts.{script_in}
+use Rattle.gs_tool.specs.Settled.{settled}
+use Rattle.gs_tool.specs.Slotted.{slotted}
 use Rattle.gs_tool.specs.Sources.{FilesSeen, Source, Count, Text, IsRead, IsUnread}
+use Rattle.gs_tool.specs.Traced.{IsTraced, traced_status}
 use Rattle.gs_tool.specs.declared.source.Kind.{Kind}
 use Rattle.gs_tool.specs.declared.source.Kind.TheVariants as kind
-use Rattle.gs_tool.specs.declared.status.Status.{Status}
-use Rattle.gs_tool.specs.declared.status.Status.TheVariants as status
-
--- a result is one thing
-one_value : {T : Type 0} (read : Result T Answer) (a b : T) → read ≡ Ok a → read ≡ Ok b → a ≡ b
-one_value read a b one other = cc
-
-no_refusal : {T : Type 0} (read : Result T Answer) (a : T) (stop : Answer) → read ≡ Ok a → read ≡ Err stop → ⊥
-no_refusal read a stop one other = cc
+use Rattle.gs_cli.specs.declared.status.Status.{Status}
+use Rattle.gs_cli.specs.declared.status.Status.TheVariants as status
+use Rattle.gs_tool.proofs.Generating.{generated_done}
+use Rattle.gs_tool.proofs.Results.{no_refusal, one_value}
+use Rattle.gs_tool.proofs.ScriptsRead.{script_is_read}
 
 -- what is at hand is what was read
 same_source : (files : FilesSeen) (kind : Kind) (word : List ℕ) (here read : Source)
@@ -42,7 +50,7 @@ same_source files kind word (Text bytes) (Text read) (told, is_file, tells, has,
     let same : bytes ≡ read = cc in ap Text same
 
 -- what is at hand was read
-never_unread : (files : FilesSeen) (kind : Kind) (word : List ℕ) (here : Source) (answer : Answer)
+pub never_unread : (files : FilesSeen) (kind : Kind) (word : List ℕ) (here : Source) (answer : Answer)
     → IsAtHand files kind word here → IsUnread files kind word answer → ⊥
 never_unread files kind word (Count n) answer (built, is) (is_file, fault) =
     let both : true ≡ false = sym built ∙ is_file in cc
@@ -58,14 +66,14 @@ never_unread files kind word (Text bytes) answer (told, is_file, tells, has, sho
 ]
 
 -- a plan at hand has its text
-same_plan : (files : FilesSeen) (word : List ℕ) (text found : PlanText) (source : Source)
+pub same_plan : (files : FilesSeen) (word : List ℕ) (text found : PlanText) (source : Source)
     → HasPlan files word text → IsRead files kind.Plan word source → plan_in source ≡ Ok found → found ≡ text
 same_plan files word text found source (here, at_hand, accepted) is_read is =
     let same : here ≡ source = same_source files kind.Plan word here source at_hand is_read in
     one_value (plan_in source) found text is (ap plan_in (sym same) ∙ accepted)
 
 -- and is not refused
-never_refused : (files : FilesSeen) (word : List ℕ) (text : PlanText) (source : Source) (answer : Answer)
+pub never_refused : (files : FilesSeen) (word : List ℕ) (text : PlanText) (source : Source) (answer : Answer)
     → HasPlan files word text → IsRead files kind.Plan word source → plan_in source ≡ Err answer → ⊥
 never_refused files word text source answer (here, at_hand, accepted) is_read refused =
     let same : here ≡ source = same_source files kind.Plan word here source at_hand is_read in
@@ -123,12 +131,82 @@ over_at_hand Is files plan_word script_word text said answer has_plan has_script
     absurd (inputs_at_hand files plan_word script_word text said answer has_plan has_script refused)
 
 -- an answer that is done is written, where the sink does not fail
-is_completed : (answer : Answer) (old new : Option (List ℕ)) (before after : ℕ) (ended : Status)
+pub is_completed : (answer : Answer) (old new : Option (List ℕ)) (before after : ℕ) (ended : Status)
     → answer.status ≡ status.Done → Gives answer old new before after ended → ¬ (Rose before after) → IsCompleted ended
 is_completed answer old new before after ended done gives calm = elim gives [
   | inl whole ↦ inl (whole.0 ∙ done)
   | inr cut ↦ absurd (calm cut.2)
 ]
+
+-- ---- a play to the end
+
+-- what is at hand for it
+pub record IsReady (files : FilesSeen) (plan_word script_word : List ℕ) (text : PlanText) (said : Said) : Type 0 where
+  pub plan : HasPlan files plan_word text
+  pub script : HasScript files script_word text said
+  pub unbreached : (p : Plan) → text_of p ≡ text → breach_of_script p said ≡ None
+
+-- so it is done
+told_done : (tells : Plan → Said → List ℕ) (files : FilesSeen) (plan_word script_word : List ℕ) (text : PlanText) (said : Said)
+    (answer : Answer) → IsReady files plan_word script_word text said
+    → IsAnswerOver files plan_word script_word (IsTold tells) answer → answer.status ≡ status.Done
+told_done tells files plan_word script_word text said answer ready answers =
+    let (plan, same, is) = over_at_hand (IsTold tells) files plan_word script_word text said answer ready.plan ready.script answers in
+    let done : answer ≡ told None (tells plan said) =
+    subst (λ (b : _). answer ≡ told b (tells plan said)) (ready.unbreached plan same) is in
+    ap (λ (a : Answer). a.status) done
+
+-- so is a trace
+traced_done : (files : FilesSeen) (plan_word script_word : List ℕ) (text : PlanText) (said : Said)
+    (answer : Answer) → IsReady files plan_word script_word text said
+    → IsAnswerOver files plan_word script_word IsTraced answer → answer.status ≡ status.Done
+traced_done files plan_word script_word text said answer ready answers =
+    let (plan, same, is) = over_at_hand IsTraced files plan_word script_word text said answer ready.plan ready.script answers in
+    ap (λ (a : Answer). a.status) is ∙ ap (λ (b : Option Breach). traced_status b) (ready.unbreached plan same)
+
+-- and so is every command that plays a script to its end
+play_done : (files : FilesSeen) (plan_word script_word : List ℕ) (text : PlanText) (said : Said) (answer : Answer)
+    (c : Option Command) → IsReady files plan_word script_word text said
+    → Plays c plan_word script_word → IsCommandAnswer files c answer → answer.status ≡ status.Done
+play_done files plan_word script_word text said answer None ready is answers = absurd is
+play_done files plan_word script_word text said answer (Some (command.Plan word)) ready is answers = absurd is
+play_done files plan_word script_word text said answer (Some (command.Play plan script workers)) ready (one, first, second) answers =
+    let alone : IsAnswerOver files plan script (IsTold played) answer =
+    subst (λ (b : Bool). IsPlayAnswer files plan script b answer) (eq-eqb workers 1 one) answers in
+    told_done played files plan_word script_word text said answer ready (rw (← first, ← second) alone)
+play_done files plan_word script_word text said answer (Some (command.Trace plan script)) ready (first, second) answers =
+    traced_done files plan_word script_word text said answer ready (rw (← first, ← second) answers)
+play_done files plan_word script_word text said answer (Some (command.Audit plan trace)) ready is answers = absurd is
+play_done files plan_word script_word text said answer (Some (command.Replay plan node trace)) ready is answers = absurd is
+play_done files plan_word script_word text said answer (Some (command.Gen number size part)) ready is answers = absurd is
+play_done files plan_word script_word text said answer (Some (command.Migrate word)) ready is answers = absurd is
+play_done files plan_word script_word text said answer (Some (command.Settle plan script gamma)) ready (first, second) answers =
+    told_done (settled gamma) files plan_word script_word text said answer ready (rw (← first, ← second) answers)
+play_done files plan_word script_word text said answer (Some (command.Slots plan script reach slot)) ready is answers = absurd is
+play_done files plan_word script_word text said answer (Some (command.Order plan script every)) ready (first, second) answers =
+    told_done (ordered every) files plan_word script_word text said answer ready (rw (← first, ← second) answers)
+
+-- `slots` moreover needs a slot plan
+slots_done : (files : FilesSeen) (plan_word script_word : List ℕ) (reach slot : ℕ) (text : PlanText) (said : Said) (answer : Answer)
+    → IsReady files plan_word script_word text said → ((p : Plan) → text_of p ≡ text → slot_fault p reach slot ≡ None)
+    → IsAnswerOver files plan_word script_word (IsSlotted reach slot) answer → answer.status ≡ status.Done
+slots_done files plan_word script_word reach slot text said answer ready unfaulted answers =
+    let (plan, same, is) = over_at_hand (IsSlotted reach slot) files plan_word script_word text said answer ready.plan ready.script answers in
+    let by_slots : IsSlottedOr None reach slot plan said answer =
+    subst (λ (f : _). IsSlottedOr f reach slot plan said answer) (unfaulted plan same) is in
+    let (s, are_slots, same_reach, same_slot, tells) = by_slots in
+    let done : answer ≡ told None (slotted s plan said) =
+    subst (λ (b : _). answer ≡ told b (slotted s plan said)) (ready.unbreached plan same) tells in
+    ap (λ (a : Answer). a.status) done
+
+-- a script of few losses has no breach
+unbreached_by : (files : FilesSeen) (plan_word script_word : List ℕ) (text : PlanText) (said : Said)
+    → HasScript files script_word text said → ((p : Plan) → text_of p ≡ text → LosesFew p said)
+    → (p : Plan) → text_of p ≡ text → breach_of_script p said ≡ None
+unbreached_by files plan_word script_word text said (source, at_hand, is_script) few p same =
+    let is : script_in (text_of p) source ≡ Ok said = ap (λ (t : PlanText). script_in t source) same ∙ is_script in
+    let read : IsReadFor (text_of p) said = IfOk-at_ok (IsReadFor (text_of p)) is (script_is_read p source) in
+    few_losses p said read.text read.bounds (few p same)
 
 -- A run that answers its words completes.
 pub answers_complete : (files : FilesSeen) (words : List (List ℕ)) (answer : Answer)
@@ -149,9 +227,23 @@ answers_complete files words answer old new before after ended answers gives = r
             )
       ]) gives calm;
   plays = λ plan_word script_word text said is has_plan has_script unbreached calm.
-      let (plan, same, plays) = over_at_hand IsPlayed files plan_word script_word text said answer has_plan has_script
-      (subst (λ (c : Option Command). IsCommandAnswer files c answer) is answers) in
-      let is_report : answer ≡ played plan said None =
-      subst (λ (b : _). answer ≡ played plan said b) (unbreached plan same) plays in
-      is_completed answer old new before after ended (ap (λ (a : Answer). a.status) is_report) gives calm;
+      is_completed answer old new before after ended
+      (play_done files plan_word script_word text said answer (command_of words)
+      (record { plan = has_plan; script = has_script; unbreached = unbreached }) is answers) gives calm;
+  slots = λ plan_word script_word reach slot text said is has_plan has_script unbreached unfaulted calm.
+      is_completed answer old new before after ended
+      (slots_done files plan_word script_word reach slot text said answer
+      (record { plan = has_plan; script = has_script; unbreached = unbreached }) unfaulted
+      (subst (λ (c : Option Command). IsCommandAnswer files c answer) is answers)) gives calm;
+  few_losses = λ plan_word script_word text said is has_plan has_script few calm.
+      is_completed answer old new before after ended
+      (play_done files plan_word script_word text said answer (command_of words)
+      (record {
+        plan = has_plan;
+        script = has_script;
+        unbreached = unbreached_by files plan_word script_word text said has_script few;
+      }) is answers) gives calm;
+  generates = λ number size wanted is free calm.
+      is_completed answer old new before after ended (generated_done number size wanted answer free
+      (subst (λ (c : Option Command). IsCommandAnswer files c answer) is answers)) gives calm;
 }

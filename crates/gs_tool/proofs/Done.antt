@@ -10,14 +10,14 @@ use Rattle.gs_calendar.specs.Breach.{Breach}
 use Rattle.gs_calendar.specs.Feeds.{IsReadFor}
 use Rattle.gs_calendar.specs.Scripts.{breach_of_script}
 use Rattle.gs_play.proofs.Keeping.{scripts_keep}
-use Rattle.gs_tool.specs.Answers.{Answer, Gives}
+use Rattle.gs_cli.specs.Answers.{Answer, Gives}
 use Rattle.gs_tool.specs.Commands.{Command}
 use Rattle.gs_tool.specs.Headline.{IsPlayWithin, PlaysKeepBounds}
 use Rattle.gs_tool.specs.Inputs.{IsAnswerOver, IsPlan, IsScriptFor}
-use Rattle.gs_tool.specs.Runs.{IsAnswer, IsCommandAnswer, IsPlayAnswer, IsPlayed, played}
+use Rattle.gs_tool.specs.Runs.{IsAnswer, IsCommandAnswer, IsPlayAnswer, IsTold, played, told}
 use Rattle.gs_tool.specs.Sources.{FilesSeen}
-use Rattle.gs_tool.specs.declared.status.Status.{Status}
-use Rattle.gs_tool.specs.declared.status.Status.TheVariants as status
+use Rattle.gs_cli.specs.declared.status.Status.{Status}
+use Rattle.gs_cli.specs.declared.status.Status.TheVariants as status
 use Rattle.gs_tool.proofs.Refusing.{no_inputs_refuse}
 use Rattle.gs_tool.proofs.ScriptsRead.{script_is_read}
 
@@ -34,7 +34,7 @@ over_done Is files plan_word script_word answer done (inr refused) =
 played_within : {files : FilesSeen} {plan_word script_word : List ℕ} {old new : Option (List ℕ)}
     (plan : Plan) (said : Said) (answer : Answer) (breach : Option Breach)
     → IsPlan files plan_word plan → IsScriptFor files script_word plan said → breach_of_script plan said ≡ breach
-    → answer ≡ played plan said breach → answer.status ≡ status.Done → Appends old new answer.text
+    → answer ≡ told breach (played plan said) → answer.status ≡ status.Done → Appends old new answer.text
     → IsPlayWithin files plan_word script_word old new
 played_within plan said answer (Some breach) is_plan is_script first is done written =
     absurd (let ended : status.Breach ≡ status.Done = ap (λ (a : Answer). a.status) (sym is) ∙ done in cc)
@@ -58,7 +58,7 @@ play_within : {files : FilesSeen} {plan_word script_word : List ℕ} {old new : 
 play_within answer false is done written =
     absurd (let ended : status.Unbuilt ≡ status.Done = ap (λ (a : Answer). a.status) (sym is) ∙ done in cc)
 play_within {files = files} {plan_word = plan_word} {script_word = script_word} answer true answers done written =
-    let (plan, said, is_plan, is_script, is) = over_done IsPlayed files plan_word script_word answer done answers in
+    let (plan, said, is_plan, is_script, is) = over_done (IsTold played) files plan_word script_word answer done answers in
     played_within plan said answer (breach_of_script plan said) is_plan is_script refl is done written
 
 -- A run that answers its words keeps the bounds of what it plays.

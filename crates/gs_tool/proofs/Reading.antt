@@ -5,19 +5,19 @@ use Rattle.gs_io.specs.Causes.{Rose}
 use Rattle.gs_plan.specs.Plans.{text_of}
 use Rattle.gs_plan.specs.declared.plan.Plan.{Plan}
 use Rattle.gs_script.specs.Script.{Said}
-use Rattle.gs_tool.specs.Answers.{Answer}
+use Rattle.gs_cli.specs.Answers.{Answer}
 use Rattle.gs_tool.specs.Inputs.{AreNoInputs, IsAnswerOver}
 use Rattle.gs_tool.specs.Plans.{plan_in}
-use Rattle.gs_tool.specs.Reply.{answer_in}
+use Rattle.gs_cli.specs.Reply.{answer_in}
 use Rattle.gs_tool.specs.Scripts.{script_in}
 use Rattle.gs_tool.specs.SourceSeen.{AreRefused}
 use Rattle.gs_tool.specs.Sources.{FilesSeen, Source, Count, Text, HasFailed, IsRead, IsUnread, seen}
-use Rattle.gs_tool.specs.Stops.{EndsWith, StopsAt, StopsWith}
-use Rattle.gs_tool.specs.declared.reply.Reply.{Reply}
+use Rattle.gs_cli.specs.Stops.{EndsWith, StopsAt, StopsWith}
+use Rattle.gs_cli.specs.declared.reply.Reply.{Reply}
 use Rattle.gs_tool.specs.declared.source.Kind.{Kind}
 use Rattle.gs_tool.specs.declared.source.Kind.TheVariants as kind
-use Rattle.gs_tool.specs.declared.stop.Stop.{Stop}
-use Rattle.gs_tool.specs.declared.stop.Stop.TheVariants.{Refused, OutOfMemory}
+use Rattle.gs_cli.specs.declared.stop.Stop.{Stop}
+use Rattle.gs_cli.specs.declared.stop.Stop.TheVariants.{Refused, OutOfMemory}
 
 -- a second read found the files as the first left them
 pub record IsLater (first second : FilesSeen) : Type 0 where
@@ -33,14 +33,14 @@ both first second = seen first.content first.before second.after
 rose_over : (first before after : ℕ) → first ≤ before → Rose before after → Rose first after
 rose_over first before after earlier rose = elim rose [ inl r ↦ inl (omega arith) | inr r ↦ inr r ]
 
-failed_over : (first second : FilesSeen) (name : List ℕ) → IsLater first second → HasFailed second name
+pub failed_over : (first second : FilesSeen) (name : List ℕ) → IsLater first second → HasFailed second name
     → HasFailed (both first second) name
 failed_over first second name in_turn failed = rose_over _ _ _ (
     subst (λ (count : List ℕ → ℕ). first.before name ≤ count name) (sym in_turn.meets) (in_turn.earlier name)
     ) failed
 
 -- what the first read gave was given over both
-read_over : (first second : FilesSeen) (kind : Kind) (word : List ℕ) (source : Source)
+pub read_over : (first second : FilesSeen) (kind : Kind) (word : List ℕ) (source : Source)
     → IsLater first second → IsRead first kind word source → IsRead (both first second) kind word source
 read_over first second kind word (Count count) in_turn is_read = is_read
 read_over first second kind word (Text bytes) in_turn is_read = is_read
@@ -62,7 +62,7 @@ unread_over first second kind word answer in_turn (is_file, fault) = (
 )
 
 -- a stop that is handed on as one of another kind
-stops_as : {Is Was : Answer → Type 0} (stop : Stop)
+pub stops_as : {Is Was : Answer → Type 0} (stop : Stop)
     → ((answer : Answer) → Was answer → Is answer) → StopsWith Was stop → StopsWith Is stop
 stops_as (Refused reply) turn stops = turn (answer_in reply) stops
 stops_as OutOfMemory turn stops = stops
@@ -72,7 +72,7 @@ errs_as : {T : Type 0} {Is Was : Answer → Type 0} (result : Result T Stop)
 errs_as (Ok value) turn stops = tt
 errs_as (Err stop) turn stops = stops_as stop turn stops
 
-handed_on : {T : Type 0} (Is : Answer → Type 0) (result : Result T Stop) (stop : Stop)
+pub handed_on : {T : Type 0} (Is : Answer → Type 0) (result : Result T Stop) (stop : Stop)
     → IsErrAnd result (λ found. found ≡ stop) → StopsWith Is stop → IfErr result (StopsWith Is)
 handed_on Is (Ok value) stop found stops = tt
 handed_on Is (Err end) stop found stops = subst (StopsWith Is) (sym found) stops

@@ -9,24 +9,25 @@ use Rattle.gs_plan.specs.declared.fault.PlanFault.{PlanFault}
 use Rattle.gs_script.specs.Reading.{script_of, steady_of}
 use Rattle.gs_script.specs.Script.{Said}
 use Rattle.gs_script.specs.declared.fault.ScriptFault.{ScriptFault}
-use Rattle.gs_tool.specs.Answers.{Answer}
-use Rattle.gs_tool.specs.Commands.{number_within}
+use Rattle.gs_cli.specs.Answers.{Answer}
+use Rattle.gs_cli.specs.Words.{number_within}
 use Rattle.gs_tool.specs.Inputs.{AreNoInputs, IsNoPlan}
 use Rattle.gs_tool.specs.Plans.{accepted, base_from, checked, parsed, plan_in, text_from}
 use Rattle.gs_tool.specs.Scripts.{said_from, script_in, steady_from}
 use Rattle.gs_tool.specs.Sources.{FilesSeen, Source, Count, Text, IsFault}
-use Rattle.gs_tool.specs.declared.status.Status.TheVariants as status
+use Rattle.gs_cli.specs.declared.status.Status.TheVariants as status
 
 -- a refusal has a status of its own
 abbrev pub IsRefusal : Answer → Type 0
 IsRefusal answer = answer.status ≡ status.Done → ⊥
 
 -- what answers an error
-refuses : {T : Type 0} (read : Result T Answer) (answer : Answer) → IfErr read IsRefusal → read ≡ Err answer → IsRefusal answer
+pub refuses : {T : Type 0} (read : Result T Answer) (answer : Answer) → IfErr read IsRefusal → read ≡ Err answer → IsRefusal answer
 refuses read answer refusal is = subst (λ r. IfErr r IsRefusal) is refusal
 
-fault_refuses : (files : FilesSeen) (name : List ℕ) (answer : Answer) → IsFault files name answer → IsRefusal answer
-fault_refuses files name answer fault done = elim fault [
+pub fault_refuses : (most : ℕ) (files : FilesSeen) (name : List ℕ) (answer : Answer) → IsFault most files name answer
+    → IsRefusal answer
+fault_refuses most files name answer fault done = elim fault [
   | inl long ↦ (let ended : status.TooLong ≡ status.Done = ap (λ (a : Answer). a.status) (sym long.1) ∙ done in cc)
   | inr failed ↦ (let ended : status.ReadFault ≡ status.Done = ap (λ (a : Answer). a.status) (sym failed.1) ∙ done in cc)
 ]
@@ -51,7 +52,7 @@ checked_refusal : (read : Result PlanText Answer) → IfErr read IsRefusal → I
 checked_refusal (Err answer) refusal = refusal
 checked_refusal (Ok text) refusal = accepted_refusal text (plan_fault text)
 
-plan_refusal : (source : Source) → IfErr (plan_in source) IsRefusal
+pub plan_refusal : (source : Source) → IfErr (plan_in source) IsRefusal
 plan_refusal source = checked_refusal (text_from source) (text_refusal source)
 
 said_refusal : (read : Result Said ScriptFault) → IfErr (said_from read) IsRefusal
@@ -69,15 +70,17 @@ script_refusal text (Text bytes) = said_refusal (script_of text bytes)
 -- what keeps a command from its plan
 pub no_plan_refuses : (files : FilesSeen) (word : List ℕ) (answer : Answer) → IsNoPlan files word answer → IsRefusal answer
 no_plan_refuses files word answer no_plan = elim no_plan [
-  | inl unread ↦ fault_refuses files word answer unread.1
+  | inl unread ↦ fault_refuses 1048576 files word answer unread.1
   | inr refused ↦ refuses (plan_in refused.0) answer (plan_refusal refused.0) refused.2
 ]
 
 -- what keeps a command from its plan and script
 pub no_inputs_refuse : (files : FilesSeen) (plan_word script_word : List ℕ) (answer : Answer)
     → AreNoInputs files plan_word script_word answer → IsRefusal answer
-no_inputs_refuse files plan_word script_word answer (inl unread) = fault_refuses files plan_word answer unread.1
-no_inputs_refuse files plan_word script_word answer (inr (inl (read, unread))) = fault_refuses files script_word answer unread.1
+no_inputs_refuse files plan_word script_word answer (inl unread) =
+    fault_refuses 1048576 files plan_word answer unread.1
+no_inputs_refuse files plan_word script_word answer (inr (inl (read, unread))) =
+    fault_refuses 1048576 files script_word answer unread.1
 no_inputs_refuse files plan_word script_word answer (inr (inr (inl (read, (source, is_read, refused))))) =
     refuses (plan_in source) answer (plan_refusal source) refused
 no_inputs_refuse files plan_word script_word answer (inr (inr (inr (plan, is_plan, (source, is_read, refused))))) =

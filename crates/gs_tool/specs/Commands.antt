@@ -1,8 +1,8 @@
 -- The commands, and the words that spell them.
-use Rattle.std.specs.Prelude.{ℕ, ◌-◌, ◌^◌, ◌&&◌, List, [], ◌∷◌, Option, Some, None, nat_le, if◌then◌else◌, codes}
+use Rattle.std.specs.Prelude.{ℕ, ◌-◌, ◌^◌, ◌≤◌, ◌&&◌, ⊤, Bool, true, false, List, [], ◌∷◌, Option, Some, None, if◌then◌else◌, codes}
 use Rattle.std.specs.Prelude.{option_map, option_and_then}
 use Rattle.std.specs.Str.{bytes_eq}
-use Rattle.gs_text.specs.Numbers.{number_of}
+use Rattle.gs_cli.specs.Words.{number_within}
 use Rattle.gs_tool.specs.declared.command.Part.{Part}
 use Rattle.gs_tool.specs.declared.command.Part.TheVariants.{Plan as PlanText, Script as ScriptText, Run}
 
@@ -19,13 +19,18 @@ pub data Command : Type 0 where
   Slots : List ℕ → List ℕ → ℕ → ℕ → Command
   Order : List ℕ → List ℕ → ℕ → Command
 
--- a number, if it is within these bounds
-abbrev pub within : ℕ → ℕ → ℕ → Option ℕ
-within least most n = if nat_le least n && nat_le n most then Some n else None
+-- its numbers are within their bounds
+abbrev pub IsInRange : Command → Type 0
+IsInRange (Play plan script workers) = (1 ≤ workers) × (workers ≤ 64)
+IsInRange (Gen number size part) = (3 ≤ size) × (size ≤ 512)
+IsInRange (Settle plan script gamma) = gamma ≤ 2 ^ 61
+IsInRange (Order plan script every) = (1 ≤ every) × (every ≤ 1048576)
+IsInRange _ = ⊤
 
--- the number that a word is, if it is within these bounds
-abbrev pub number_within : ℕ → ℕ → List ℕ → Option ℕ
-number_within least most word = option_and_then (within least most) (number_of word)
+-- `trace`, whose answer is written as it comes
+abbrev pub is_trace : Option Command → Bool
+is_trace (Some (Trace plan script)) = true
+is_trace _ = false
 
 -- the part of a generated network that a word names
 abbrev pub part_of : List ℕ → Option Part

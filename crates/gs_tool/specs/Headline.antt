@@ -11,8 +11,8 @@ use Rattle.gs_play.specs.Scripts.{report_of_script}
 use Rattle.gs_tool.specs.Commands.{Play, command_of}
 use Rattle.gs_tool.specs.Inputs.{IsPlan, IsScriptFor}
 use Rattle.gs_tool.specs.Sources.{FilesSeen}
-use Rattle.gs_tool.specs.declared.status.Status.{Status}
-use Rattle.gs_tool.specs.declared.status.Status.TheVariants.{Done}
+use Rattle.gs_cli.specs.declared.status.Status.{Status}
+use Rattle.gs_cli.specs.declared.status.Status.TheVariants.{Done}
 
 -- What the words PLAN and SCRIPT name is an accepted plan and a script for it. Playing the script keeps all bounds of
 -- the plan, and its report was written, in which no number is above its bound.

@@ -8,10 +8,10 @@ use Rattle.gs_planfile.specs.declared.text.PlanText.{PlanText}
 use Rattle.gs_plan.specs.Faults.{plan_fault}
 use Rattle.gs_plan.specs.Words.{why_of as plan_why}
 use Rattle.gs_plan.specs.declared.fault.PlanFault.{PlanFault}
-use Rattle.gs_tool.specs.Answers.{Answer, line}
-use Rattle.gs_tool.specs.Commands.{number_within}
+use Rattle.gs_cli.specs.Answers.{Answer, line}
+use Rattle.gs_cli.specs.Words.{number_within}
 use Rattle.gs_tool.specs.Sources.{Source, Count, Text}
-use Rattle.gs_tool.specs.declared.status.Status.TheVariants as status
+use Rattle.gs_cli.specs.declared.status.Status.TheVariants as status
 
 -- a plan that is refused
 abbrev pub refused : List ℕ → Answer

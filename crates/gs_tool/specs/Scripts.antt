@@ -5,10 +5,10 @@ use Rattle.gs_script.specs.Faults.{why_of}
 use Rattle.gs_script.specs.Reading.{script_of, steady_of}
 use Rattle.gs_script.specs.Script.{Said}
 use Rattle.gs_script.specs.declared.fault.ScriptFault.{ScriptFault}
-use Rattle.gs_tool.specs.Answers.{Answer, line}
-use Rattle.gs_tool.specs.Commands.{number_within}
+use Rattle.gs_cli.specs.Answers.{Answer, line}
+use Rattle.gs_cli.specs.Words.{number_within}
 use Rattle.gs_tool.specs.Sources.{Source, Count, Text}
-use Rattle.gs_tool.specs.declared.status.Status.TheVariants as status
+use Rattle.gs_cli.specs.declared.status.Status.TheVariants as status
 
 -- a script that is refused
 abbrev pub script_refused : List ℕ → Answer

@@ -2,7 +2,7 @@
 use Rattle.std.specs.Prelude.{◌≡◌, ◌⊎◌, Ok, Err}
 use Rattle.gs_plan.specs.Plans.{text_of}
 use Rattle.gs_plan.specs.declared.plan.Plan.{Plan}
-use Rattle.gs_tool.specs.Answers.{Answer}
+use Rattle.gs_cli.specs.Answers.{Answer}
 use Rattle.gs_tool.specs.Plans.{plan_in}
 use Rattle.gs_tool.specs.Scripts.{script_in}
 use Rattle.gs_tool.specs.Sources as told

@@ -1,17 +1,16 @@
 //! The answers to the commands, over inputs that were accepted: `docs/FORMATS.md`, "Commands", "The text of
 //! a plan" and "The text of a report".
 
-ghost use Rattle.std.specs.Prelude.{◌≡◌, IfOk};
+ghost use Rattle.std.specs.Prelude.{◌≡◌, ◌≢◌, IfOk, OnOk};
 ghost use Rattle.gs_planfile.specs.Texts.{IsText};
 ghost use Rattle.gs_plan.specs.Plans.{text_of};
-ghost use Rattle.gs_play.specs.StopTexts.{stop_text};
-ghost use Rattle.gs_tool.specs.Answers.{line};
-ghost use Rattle.gs_tool.specs.Reply.{answer_in};
-ghost use Rattle.gs_tool.specs.Runs.{IsMigrated, IsPlanned, IsPlayed};
+ghost use Rattle.gs_calendar.specs.StopTexts.{stop_text};
+ghost use Rattle.gs_cli.specs.Answers.{line};
+ghost use Rattle.gs_cli.specs.Reply.{answer_in};
+ghost use Rattle.gs_tool.specs.Runs.{IsMigrated, IsPlanned, IsTold, played};
 
 use crate::plan_text::plan_text;
-use crate::reply::Reply;
-use crate::status::Status;
+use gs_cli::{Reply, Status};
 use gs_io::Gate;
 use gs_plan::Plan;
 use gs_play::PlayStop;
@@ -43,12 +42,22 @@ pub(crate) fn played<G: Gate>(
     gate: &G,
 ) -> Result<Reply, AllocError>
     requires { script.now.text ≡ text_of plan.now }
-    ensures { IfOk result (λ reply. IsPlayed plan.now script.now (answer_in reply)) }
+    ensures { IfOk result (λ reply. IsTold played plan.now script.now (answer_in reply)) }
 {
     match gs_play::play(alloc, plan, script, 1, gate) {
         Ok(report) => Ok(Reply::Text(Status::Done, report.text(alloc, plan)?)),
-        Err(PlayStop::OutOfMemory) => Err(AllocError),
-        Err(stop) => breach_line(alloc, &stop),
+        Err(stop) => stopped(alloc, &stop),
+    }
+}
+
+/// The answer to a command whose play stops: the line of the breach.
+pub(crate) fn stopped(alloc: Global, stop: &PlayStop) -> Result<Reply, AllocError>
+    ensures line { IfOk result (λ reply. answer_in reply ≡ line Status.Breach (stop_text stop.now)) }
+    ensures stale { OnOk result (stop.now ≢ PlayStop.OutOfMemory) }
+{
+    match stop {
+        PlayStop::OutOfMemory => Err(AllocError),
+        PlayStop::Stale { .. } => breach_line(alloc, stop),
     }
 }
 

@@ -1,8 +1,10 @@
 ghost use Rattle.std.specs.Prelude.{◌≡◌, map, string_bytes, Some, None, IfSome, IfNone};
-ghost use Rattle.gs_tool.specs.Commands.{command_of, number_within, part_of, plan_args, play_args, trace_args};
+ghost use Rattle.gs_tool.specs.Commands.{command_of, part_of, plan_args, play_args, trace_args};
 ghost use Rattle.gs_tool.specs.Commands.{audit_args, replay_args, gen_args, migrate_args, settle_args, slots_args};
 ghost use Rattle.gs_tool.specs.Commands.{order_args};
 ghost use Rattle.gs_tool.specs.Meaning.{meaning};
+
+use gs_cli::number_within;
 
 /// What `gen` writes of a generated network.
 #[derive(Clone, Copy, Debug, PartialEq, Eq)]
@@ -85,16 +87,6 @@ pub fn command_of(words: &[String]) -> Option<Command<'_>>
         "settle" => settle_args(args),
         "slots" => slots_args(args),
         "order" => order_args(args),
-        _ => None,
-    }
-}
-
-/// The number that a word is, where it is within these bounds.
-pub fn number_within(word: &str, least: u64, most: u64) -> Option<u64>
-    ensures { result ≡ number_within least most word.now }
-{
-    match gs_text::read_u64(word.as_bytes()) {
-        Some(n) if least <= n && n <= most => Some(n),
         _ => None,
     }
 }

@@ -8,13 +8,13 @@ ghost use Rattle.gs_tool.specs.Inputs.{AreNoInputs, IsNoPlan, IsPlan, IsScriptFo
 ghost use Rattle.gs_tool.specs.Plans.{plan_in};
 ghost use Rattle.gs_tool.specs.Scripts.{script_in};
 ghost use Rattle.gs_tool.specs.SourceSeen.{AreRefused, source_in};
-ghost use Rattle.gs_tool.specs.Sources.{is_built_in, seen};
-ghost use Rattle.gs_tool.specs.Stops.{StopsWith};
+ghost use Rattle.gs_tool.specs.Sources.{are_built_in, is_built_in, seen};
+ghost use Rattle.gs_cli.specs.Stops.{StopsWith};
 
 use crate::plans::plan_in;
 use crate::scripts::script_in;
 use crate::source::{Kind, Source, read_source};
-use crate::stop::Stop;
+use gs_cli::Stop;
 use gs_io::Files;
 use gs_plan::Plan;
 use gs_script::Script;
@@ -54,8 +54,7 @@ pub(crate) fn read_inputs<F: Files>(
     ensures text { IfOk result (λ inputs. inputs.script.text ≡ text_of inputs.plan) }
     ensures err { IfErr result (StopsWith (AreNoInputs
         (seen (F.content files.old) (F.faults files.old) (F.faults files.new)) plan.now script.now)) }
-    ensures untouched { is_built_in Kind.Plan plan.now ≡ true → is_built_in Kind.Script script.now ≡ true
-        → files.new ≡ files.old }
+    ensures untouched { are_built_in plan.now script.now ≡ true → files.new ≡ files.old }
 {
     let plan = read_source(alloc, files, Kind::Plan, plan)?;
     let script = read_source(alloc, files, Kind::Script, script)?;
@@ -63,7 +62,11 @@ pub(crate) fn read_inputs<F: Files>(
 }
 
 /// The plan and the script of what was read.
-fn accepted(alloc: Global, plan: &Source<'_>, script: &Source<'_>) -> Result<Inputs, Stop>
+pub(crate) fn accepted(
+    alloc: Global,
+    plan: &Source<'_>,
+    script: &Source<'_>,
+) -> Result<Inputs, Stop>
     ensures plan { IfOk result (λ inputs. plan_in (source_in plan.now) ≡ Ok (text_of inputs.plan)) }
     ensures script { IfOk result (λ inputs.
         script_in (text_of inputs.plan) (source_in script.now) ≡ Ok inputs.script) }

@@ -2,21 +2,40 @@
 //! answers, and the run that writes the answer. See `docs/FORMATS.md`.
 #![tactic(auto)]
 
-pub use status::Status;
+pub use gs_cli::Status;
 pub use tool::run_tool;
 
 mod answers;
+#[cfg(test)]
+mod audit_tests;
+mod audited;
 mod command;
+mod generated;
+#[cfg(test)]
+mod generated_tests;
 mod inputs;
+mod order;
+#[cfg(test)]
+mod order_tests;
+mod order_text;
 mod plan_text;
 mod plans;
 #[cfg(test)]
 mod play_tests;
-mod reply;
 mod scripts;
+mod settle;
+#[cfg(test)]
+mod settle_tests;
+mod settle_text;
+#[cfg(test)]
+mod slot_tests;
+mod slot_text;
+mod slots;
 mod source;
-mod status;
-mod stop;
 #[cfg(test)]
 mod tests;
 mod tool;
+mod trace_input;
+#[cfg(test)]
+mod trace_tests;
+mod tracing;

@@ -1,6 +1,6 @@
 //! The text that `plan` writes: `docs/FORMATS.md`, "The text of a plan".
 
-ghost use Rattle.std.specs.Prelude.{◌≡◌, ◌+◌, ◌<◌, ◌≤◌, ◌++◌, List, ℕ, length, decimal, OnOk, IfOk};
+ghost use Rattle.std.specs.Prelude.{◌≡◌, ◌+◌, ◌<◌, ◌≤◌, ◌++◌, ℕ, length, decimal, OnOk, IfOk};
 ghost use Rattle.gs_plan.specs.Plans.{text_of, graph_of};
 ghost use Rattle.gs_tool.specs.PlanTexts.{edge_line, plan_text, with_best, with_edge, with_edges, with_level};
 ghost use Rattle.gs_tool.specs.PlanTexts.{with_levels, with_link, with_rate, with_size, with_spans, with_terms};
@@ -27,7 +27,8 @@ pub fn plan_text(alloc: Global, plan: &Plan) -> Result<Lines, AllocError>
     Ok(text)
 }
 
-fn write_number(text: &mut Lines, word: &str, n: u128) -> Result<(), AllocError>
+/// A word and a number after it.
+pub(crate) fn write_number(text: &mut Lines, word: &str, n: u128) -> Result<(), AllocError>
     ensures { OnOk result (text.new ≡ text.old ++ word.now ++ decimal n) }
 {
     text.word(word)?;

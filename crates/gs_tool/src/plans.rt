@@ -5,15 +5,13 @@ ghost use Rattle.gs_planfile.specs.Meaning.{plan_of};
 ghost use Rattle.gs_planfile.specs.Texts.{IsText};
 ghost use Rattle.gs_plan.specs.Faults.{plan_fault};
 ghost use Rattle.gs_plan.specs.Plans.{text_of};
-ghost use Rattle.gs_tool.specs.Commands.{number_within};
+ghost use Rattle.gs_cli.specs.Words.{number_within};
 ghost use Rattle.gs_tool.specs.Plans.{accepted, base_from, parsed, plan_in, refused, text_from};
 ghost use Rattle.gs_tool.specs.SourceSeen.{source_in};
-ghost use Rattle.gs_tool.specs.Stops.{StopsAt, StopsWith};
+ghost use Rattle.gs_cli.specs.Stops.{StopsAt, StopsWith};
 
-use crate::command;
 use crate::source::Source;
-use crate::status::Status;
-use crate::stop::Stop;
+use gs_cli::{Status, Stop, number_within};
 use gs_plan::{Plan, PlanFault};
 use gs_planfile::{PlanFileFault, PlanText};
 use std::alloc::Global;
@@ -31,7 +29,7 @@ fn base_text(alloc: Global, count: &str) -> Result<PlanText, Stop>
     ensures text { IfOk result IsText }
     ensures err { IfErr result (StopsAt (base_from (number_within 0 (2 ^ 32 - 1) count.now))) }
 {
-    match command::number_within(count, 0, u64::from(u32::MAX)) {
+    match number_within(count, 0, u64::from(u32::MAX)) {
         Some(n) => Ok(gs_planfile::base(alloc, n as u32)),
         None => Err(refusal(alloc, "number")),
     }

@@ -1,9 +1,9 @@
-use crate::status::Status;
 use crate::tests::{gives, run_with};
+use gs_cli::Status;
 use std::test::Fail;
 
 /// The report of two nodes, of which the second is ahead.
-fn report(
+pub(crate) fn report(
     rt: &HostRuntime,
     quanta: u32,
     skew: (u32, u32),

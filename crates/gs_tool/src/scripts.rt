@@ -5,15 +5,13 @@ ghost use Rattle.std.specs.Prelude.{◌≡◌, ◌-◌, ◌^◌, IfOk, IfErr, Ok
 ghost use Rattle.gs_plan.specs.Plans.{text_of};
 ghost use Rattle.gs_script.specs.Faults.{why_of};
 ghost use Rattle.gs_script.specs.Reading.{script_of};
-ghost use Rattle.gs_tool.specs.Commands.{number_within};
+ghost use Rattle.gs_cli.specs.Words.{number_within};
 ghost use Rattle.gs_tool.specs.Scripts.{said_from, script_in, script_refused, steady_from};
 ghost use Rattle.gs_tool.specs.SourceSeen.{source_in};
-ghost use Rattle.gs_tool.specs.Stops.{StopsAt, StopsWith};
+ghost use Rattle.gs_cli.specs.Stops.{StopsAt, StopsWith};
 
-use crate::command;
 use crate::source::Source;
-use crate::status::Status;
-use crate::stop::Stop;
+use gs_cli::{Status, Stop, number_within};
 use gs_plan::Plan;
 use gs_script::{Script, ScriptFault};
 use std::alloc::{AllocError, Global};
@@ -42,7 +40,7 @@ fn steady(alloc: Global, count: &str, plan: &Plan) -> Result<Script, Stop>
     ensures text { IfOk result (λ script. script.text ≡ text_of plan.now) }
     ensures err { IfErr result (StopsAt (steady_from (text_of plan.now) (number_within 0 (2 ^ 64 - 1) count.now))) }
 {
-    let Some(quanta) = command::number_within(count, 0, u64::MAX) else {
+    let Some(quanta) = number_within(count, 0, u64::MAX) else {
         return Err(refusal(alloc, "number 1"));
     };
     match Script::steady(alloc, quanta, plan) {

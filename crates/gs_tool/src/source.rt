@@ -4,10 +4,9 @@ ghost use Rattle.std.specs.Prelude.{◌≡◌, ◌≤◌, ℕ, List, IfOk, IfErr
 ghost use Rattle.std.specs.Prelude.{option_map, if◌then◌else◌, drop, length};
 ghost use Rattle.gs_tool.specs.SourceSeen.{source_in};
 ghost use Rattle.gs_tool.specs.Sources.{IsFault, IsFile, IsRead, IsUnread, is_built_in, prefix_of, seen};
-ghost use Rattle.gs_tool.specs.Stops.{StopsWith};
+ghost use Rattle.gs_cli.specs.Stops.{StopsWith};
 
-use crate::status::Status;
-use crate::stop::Stop;
+use gs_cli::{Status, Stop};
 use gs_io::{FileStop, Files};
 use std::alloc::Global;
 
@@ -41,16 +40,21 @@ fn count_after(kind: Kind, word: &str) -> Option<&str>
     }
 }
 
-/// The bytes of a file.
-fn read_file<F: Files>(alloc: Global, files: &mut F, name: &str) -> Result<Vec<u8>, Stop>
+/// The bytes of a file, which may have so many.
+pub(crate) fn read_file<F: Files>(
+    alloc: Global,
+    files: &mut F,
+    name: &str,
+    most: u64,
+) -> Result<Vec<u8>, Stop>
     ensures ok { IfOk result (λ bytes.
-        IsFile (seen (F.content files.old) (F.faults files.old) (F.faults files.new)) name.now bytes.items) }
+        IsFile most (seen (F.content files.old) (F.faults files.old) (F.faults files.new)) name.now bytes.items) }
     ensures err { IfErr result (StopsWith
-        (IsFault (seen (F.content files.old) (F.faults files.old) (F.faults files.new)) name.now)) }
+        (IsFault most (seen (F.content files.old) (F.faults files.old) (F.faults files.new)) name.now)) }
     ensures same { F.content files.new ≡ F.content files.old }
     ensures later { (other : List ℕ) → F.faults files.old other ≤ F.faults files.new other }
 {
-    match files.read(alloc, name, MOST_BYTES) {
+    match files.read(alloc, name, most) {
         Ok(bytes) => Ok(bytes),
         Err(FileStop::TooLong) => Err(Stop::refused(alloc, Status::TooLong, "too long: ", name)),
         Err(FileStop::Failed) => Err(Stop::refused(
@@ -80,6 +84,6 @@ pub(crate) fn read_source<'w, F: Files>(
 {
     match count_after(kind, word) {
         Some(count) => Ok(Source::Count(count)),
-        None => Ok(Source::Text(read_file(alloc, files, word)?)),
+        None => Ok(Source::Text(read_file(alloc, files, word, MOST_BYTES)?)),
     }
 }

@@ -1,22 +1,29 @@
-ghost use Rattle.std.specs.Prelude.{◌≡◌, ◌==◌, ◌⊎◌, map, string_bytes, true, Some, None, IsOk, IfOk};
-ghost use Rattle.gs_tool.specs.Commands.{command_of};
+ghost use Rattle.std.specs.Prelude.{◌≡◌, ◌==◌, ◌⊎◌, map, string_bytes, true, false, Some, None, IsOk, IfOk};
+ghost use Rattle.gs_tool.specs.Commands.{IsInRange, command_of, is_trace};
 ghost use Rattle.gs_tool.specs.Meaning.{meaning};
 ghost use Rattle.gs_tool.specs.Completeness.{Completes};
+ghost use Rattle.gs_tool.specs.AuditHeadline.{AuditsKeepBounds};
+ghost use Rattle.gs_tool.specs.AuditsComplete.{AuditsComplete};
 ghost use Rattle.gs_tool.specs.Headline.{PlaysKeepBounds};
-ghost use Rattle.gs_tool.specs.Reply.{answer_in};
+ghost use Rattle.gs_tool.specs.OrdersAgree.{OrdersAgree};
+ghost use Rattle.gs_cli.specs.Reply.{answer_in};
 ghost use Rattle.gs_tool.specs.Inputs.{IsAnswerOn, IsAnswerOver};
-ghost use Rattle.gs_tool.specs.Runs.{IsAnswer, IsCommandAnswer, IsMigrated, IsPlanned, IsPlayAnswer, IsPlayed};
+ghost use Rattle.gs_tool.specs.Runs.{IsAnswer, IsCommandAnswer, IsMigrated, IsPlanned, IsPlayAnswer, IsTold, played};
 ghost use Rattle.gs_tool.specs.Runs.{Runs, names_no_file, plays_no_file};
-ghost use Rattle.gs_tool.specs.Sources.{is_built_in, seen};
-ghost use Rattle.gs_tool.specs.Stops.{EndsWith};
+ghost use Rattle.gs_tool.specs.Sources.{are_built_in, is_built_in, seen};
+ghost use Rattle.gs_cli.specs.Stops.{EndsWith};
 
 use crate::answers::{migrated, planned, played};
+use crate::audited::{audit_answer, replay_answer};
 use crate::command::{Command, command_of};
+use crate::generated::generated;
 use crate::inputs::{read_inputs, read_plan};
-use crate::reply::Reply;
+use crate::order::order_answer;
+use crate::settle::settle_answer;
+use crate::slots::slots_answer;
 use crate::source::Kind;
-use crate::status::Status;
-use crate::stop::Stop;
+use crate::tracing::trace;
+use gs_cli::{Reply, Status, Stop};
 use gs_io::{Files, Gate, Sink};
 use std::alloc::Global;
 
@@ -24,9 +31,9 @@ const USAGE: &str = "usage: gradsync plan, play, trace, audit, replay, gen or no
 
 const UNBUILT: &str = "not built\n";
 
-/// Does what the words of a command line ask for, and writes the answer to `out`, a text one line a
-/// write and a file in one. It waits for nobody. See `docs/FORMATS.md`, "Commands", "Statuses" and
-/// "Fault lines".
+/// Does what the words of a command line ask for, and writes the answer to `out`: a text one line a
+/// write, a file in one, a trace its head and each event in one. It waits for nobody. See
+/// `docs/FORMATS.md`, "Commands", "Statuses" and "Fault lines".
 pub fn run_tool<F: Files, K: Sink, G: Gate>(
     alloc: Global,
     words: &[String],
@@ -45,12 +52,25 @@ pub fn run_tool<F: Files, K: Sink, G: Gate>(
     ensures bounds { PlaysKeepBounds (seen (F.content files.old) (F.faults files.old) (F.faults files.new))
         (map string_bytes words.now) (K.bytes out.old) (K.bytes out.new) result }
 
+    // The events of an order that is done have stamps that agree with their order.
+    ensures orders { OrdersAgree (seen (F.content files.old) (F.faults files.old) (F.faults files.new))
+        (map string_bytes words.now) (K.bytes out.old) (K.bytes out.new) result }
+
+    // So it is with the audit and the replay of a trace.
+    ensures audits_complete { AuditsComplete (seen (F.content files.old) (F.faults files.old) (F.faults files.new))
+        (map string_bytes words.now) (K.faults out.old) (K.faults out.new) result }
+    ensures audits { AuditsKeepBounds (seen (F.content files.old) (F.faults files.old) (F.faults files.new))
+        (map string_bytes words.now) (K.bytes out.old) (K.bytes out.new) result }
+
     ensures untouched { names_no_file (command_of (map string_bytes words.now)) ≡ true → files.new ≡ files.old }
 
     // Words that are no command need no memory.
     ensures usage { command_of (map string_bytes words.now) ≡ None
         → (result ≡ Status.Usage) ⊎ (result ≡ Status.WriteFault) }
 {
+    if let Some(Command::Trace { plan, script }) = command_of(words) {
+        return trace(alloc, plan, script, files, out);
+    }
     match answer(alloc, words, files, gate) {
         Ok(reply) => reply.write(out),
         Err(Stop::Refused(reply)) => reply.write(out),
@@ -58,13 +78,14 @@ pub fn run_tool<F: Files, K: Sink, G: Gate>(
     }
 }
 
-/// The answer to the words of a command line.
+/// The answer to the words of a command line, but for a trace, which is written as it comes.
 fn answer<F: Files, G: Gate>(
     alloc: Global,
     words: &[String],
     files: &mut F,
     gate: &G,
 ) -> Result<Reply, Stop>
+    requires { is_trace (command_of (map string_bytes words.now)) ≡ false }
     ensures answer { EndsWith
         (IsAnswer (seen (F.content files.old) (F.faults files.old) (F.faults files.new)) (map string_bytes words.now))
         result }
@@ -78,13 +99,15 @@ fn answer<F: Files, G: Gate>(
     }
 }
 
-/// The answer to a command.
+/// The answer to a command that is no trace.
 fn answer_to<F: Files, G: Gate>(
     alloc: Global,
     command: Command<'_>,
     files: &mut F,
     gate: &G,
 ) -> Result<Reply, Stop>
+    requires range { IsInRange (meaning command) }
+    requires no_trace { is_trace (Some (meaning command)) ≡ false }
     ensures answer { EndsWith
         (IsCommandAnswer (seen (F.content files.old) (F.faults files.old) (F.faults files.new))
         (Some (meaning command.entry)))
@@ -99,7 +122,26 @@ fn answer_to<F: Files, G: Gate>(
             script,
             workers,
         } => play_answer(alloc, files, plan, script, workers, gate),
-        _ => Ok(Reply::Line(Status::Unbuilt, UNBUILT)),
+        Command::Order {
+            plan,
+            script,
+            every,
+        } => order_answer(alloc, files, plan, script, every),
+        Command::Settle {
+            plan,
+            script,
+            gamma,
+        } => settle_answer(alloc, files, plan, script, gamma),
+        Command::Slots {
+            plan,
+            script,
+            reach,
+            slot,
+        } => slots_answer(alloc, files, plan, script, reach, slot),
+        Command::Audit { plan, trace } => audit_answer(alloc, files, plan, trace),
+        Command::Replay { plan, node, trace } => replay_answer(alloc, files, plan, node, trace),
+        Command::Gen { number, size, part } => generated(alloc, number, size, part, gate),
+        Command::Trace { .. } => unreachable!(),
     }
 }
 
@@ -157,9 +199,9 @@ fn play_alone<F: Files, G: Gate>(
 ) -> Result<Reply, Stop>
     ensures answer { EndsWith
         (IsAnswerOver (seen (F.content files.old) (F.faults files.old) (F.faults files.new))
-        plan.now script.now IsPlayed)
+        plan.now script.now (IsTold played))
         result }
-    ensures untouched { plays_no_file plan.now script.now true ≡ true → files.new ≡ files.old }
+    ensures untouched { are_built_in plan.now script.now ≡ true → files.new ≡ files.old }
 {
     let inputs = read_inputs(alloc, files, plan, script)?;
     Ok(played(alloc, &inputs.plan, &inputs.script, gate)?)

@@ -1,5 +1,5 @@
 use Rattle.std.proofs.Common.{inl}
-use Rattle.gs_tool.specs.Runs.{IsPlayed}
+use Rattle.gs_tool.specs.Runs.{IsTold, played}
 use Rattle.gs_tool.specs.Sources.{FilesSeen, seen}
 use Rattle.gs_tool.proofs.Reading.{none_over}
 use Rattle.gs_tool.proofs.tool.play_alone.Goals as goal
@@ -8,7 +8,7 @@ pub returns-in_err-inputs-clause-answer : goal.returns-in_err-inputs-clause-answ
 returns-in_err-inputs-clause-answer g c =
     let faults = g.F.Files.faults in
     let files : FilesSeen = seen (g.F.Files.content c.args.files.now) (faults c.args.files.now) (faults c.read_inputs.new.files) in
-    none_over IsPlayed files c.args.plan.now c.args.script.now
+    none_over (IsTold played) files c.args.plan.now c.args.script.now
     c.from_residual.result c.in_err-inputs.field-0.0 c.from_residual.ensures.1 c.in_err-inputs.ensures.err
 
 pub returns-clause-answer : goal.returns-clause-answer

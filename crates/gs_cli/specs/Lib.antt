@@ -1,0 +1,5 @@
+pub mod Answers
+pub mod Reply
+pub mod Statuses
+pub mod Stops
+pub mod Words

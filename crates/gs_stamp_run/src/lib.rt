@@ -1,0 +1,11 @@
+//! The command `stamp`: stamps from a store, one line each. See `docs/FORMATS.md`, "Stamps".
+#![tactic(auto)]
+
+pub use run::{StampEnd, run_stamp};
+
+mod issuing;
+mod lines;
+mod run;
+#[cfg(test)]
+mod tests;
+mod words;

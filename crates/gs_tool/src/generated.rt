@@ -1,0 +1,56 @@
+//! The answers to `gen`: `docs/FORMATS.md`, "Generated runs".
+
+ghost use Rattle.std.specs.Prelude.{◌≡◌, IfOk, IfErr};
+ghost use Rattle.gs_plan.specs.Plans.{text_of};
+ghost use Rattle.gs_gen.specs.Texts.{plan_text, script_text};
+ghost use Rattle.gs_cli.specs.Stops.{EndsWith, StopsWith};
+ghost use Rattle.gs_tool.specs.Generated.{AreAccepted, IsAnswerOf, IsGenerated, IsRefusal};
+ghost use Rattle.gs_tool.specs.Runs.{IsTold, played};
+
+use crate::answers::played;
+use crate::command::Part;
+use crate::inputs::{Inputs, accepted};
+use crate::source::Source;
+use gs_cli::{Reply, Status, Stop};
+use gs_io::Gate;
+use std::alloc::Global;
+
+/// The answer to `gen NUMBER SIZE PART`.
+pub(crate) fn generated<G: Gate>(
+    alloc: Global,
+    number: u64,
+    size: u32,
+    part: Part,
+    gate: &G,
+) -> Result<Reply, Stop>
+    ensures { EndsWith (IsGenerated number size part (IsTold played)) result }
+{
+    match part {
+        Part::Plan => Ok(Reply::Text(Status::Done, gs_gen::plan_text(alloc, size)?)),
+        Part::Script => Ok(Reply::Text(Status::Done, gs_gen::script_text(alloc, number, size)?)),
+        Part::Run => generated_play(alloc, number, size, gate),
+    }
+}
+
+/// The play of a generated script on its plan. A report is the same for every number of workers, and one
+/// worker plays it here.
+fn generated_play<G: Gate>(alloc: Global, number: u64, size: u32, gate: &G) -> Result<Reply, Stop>
+    ensures { EndsWith (IsAnswerOf (plan_text size) (script_text number size) (IsTold played)) result }
+{
+    let inputs = generated_inputs(alloc, number, size)?;
+    Ok(played(alloc, &inputs.plan, &inputs.script, gate)?)
+}
+
+/// A generated plan and its script, which are read from their texts as from files.
+fn generated_inputs(alloc: Global, number: u64, size: u32) -> Result<Inputs, Stop>
+    ensures ok { IfOk result (λ inputs.
+        AreAccepted (plan_text size) (script_text number size) (text_of inputs.plan) inputs.script) }
+    ensures text { IfOk result (λ inputs. inputs.script.text ≡ text_of inputs.plan) }
+    ensures err { IfErr result (StopsWith (IsRefusal (plan_text size) (script_text number size))) }
+{
+    let plan = gs_gen::plan_text(alloc, size)?;
+    let script = gs_gen::script_text(alloc, number, size)?;
+    let plan = Source::Text(plan.bytes().to_vec(alloc)?);
+    let script = Source::Text(script.bytes().to_vec(alloc)?);
+    accepted(alloc, &plan, &script)
+}
