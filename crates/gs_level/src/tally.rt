@@ -2,7 +2,7 @@ ghost use Rattle.std.specs.Prelude.{◌≡◌, ◌+◌, ◌-◌, ◌<◌, ◌^�
 ghost use Rattle.gs_topo.specs.Walks.{IsGraph};
 ghost use Rattle.gs_plan.specs.Plans.{text_of, graph_of};
 ghost use Rattle.gs_level.specs.Reports.{report_of};
-ghost use Rattle.gs_skew.specs.Skews.{global_skew};
+ghost use Rattle.gs_skew.specs.Skews.{global_skew, near_skew};
 
 use crate::potentials::peaks;
 use crate::report::Report;
@@ -24,7 +24,7 @@ pub struct Tally {
 }
 
 impl Tally {
-    ghost use Rattle.gs_level.specs.Tallies.{rows_in, tally_of};
+    ghost use Rattle.gs_level.specs.Tallies.{IsSeenAs, global_in, near_in, rows_in, tally_of};
     ghost use Rattle.gs_level.specs.Running.{added, raised_global, raised_near};
 
     /// The tally of the clocks at the start.
@@ -44,6 +44,20 @@ impl Tally {
         }
     }
 
+    /// The greatest global skew so far, in clock units.
+    pub fn global(&self) -> u64
+        ensures { result ≡ global_in self.now }
+    {
+        self.global
+    }
+
+    /// The greatest difference of neighbours so far, in clock units.
+    pub fn near(&self) -> u64
+        ensures { result ≡ near_in self.now }
+    {
+        self.near
+    }
+
     /// Takes in the clocks at the end of one more quantum.
     pub fn add(&mut self, plan: &Plan, clocks: &[u64])
         requires count { length clocks.now ≡ (graph_of plan.now).nodes }
@@ -52,7 +66,23 @@ impl Tally {
             → self.new ≡ tally_of (graph_of plan.now) (rows ++ clocks.now ∷ []) }
         ensures rows { rows_in self.new ≡ rows_in self.old + 1 }
     {
-        *self = self.with(plan.topo(), clocks);
+        let global = global_skew(clocks);
+        let near = self.near_seen(plan.topo(), clocks, global);
+        self.see(plan, clocks, global, near);
+    }
+
+    /// Takes in one more row whose skews were bounded without a look at all of its clocks. Each bound is
+    /// the skew itself where it is above the greatest so far.
+    pub fn see(&mut self, plan: &Plan, clocks: &[u64], global: u64, near: u64)
+        requires count { length clocks.now ≡ (graph_of plan.now).nodes }
+        requires room { rows_in self.old < 2 ^ 32 - 1 }
+        requires global { IsSeenAs (global_in self.old) (global_skew clocks.now) global }
+        requires near { IsSeenAs (near_in self.old) (near_skew (graph_of plan.now).edges clocks.now) near }
+        ensures value { (rows : List (List ℕ)) → self.old ≡ tally_of (graph_of plan.now) rows
+            → self.new ≡ tally_of (graph_of plan.now) (rows ++ clocks.now ∷ []) }
+        ensures rows { rows_in self.new ≡ rows_in self.old + 1 }
+    {
+        *self = self.with(plan.topo(), clocks, global, near);
     }
 
     /// What is reported once these clocks, the last, were taken in, where nodes took `fast` quanta in
@@ -82,17 +112,31 @@ impl Tally {
         })
     }
 
-    /// The tally with one more row.
-    #[tactic(auto, unfolding(crate::specs::Running::added))]
-    fn with(self, topo: &Topology, clocks: &[u64]) -> Self
+    /// The neighbour skew of a row, as far as it may be above the greatest so far. It is at most the
+    /// row's global skew, so most rows are done with without a look at their edges.
+    fn near_seen(&self, topo: &Topology, clocks: &[u64], global: u64) -> u64
         requires graph { IsGraph topo.now }
         requires count { length clocks.now ≡ topo.now.nodes }
+        requires global { global ≡ global_skew clocks.now }
+        ensures { IsSeenAs self.now.near (near_skew topo.now.edges clocks.now) result }
+    {
+        if global <= self.near {
+            return global;
+        }
+        near_skew(topo, clocks)
+    }
+
+    /// The tally with one more row, of these skews where they are above those so far.
+    #[tactic(auto, unfolding(crate::specs::Running::added))]
+    fn with(self, topo: &Topology, clocks: &[u64], global: u64, near: u64) -> Self
+        requires count { length clocks.now ≡ topo.now.nodes }
         requires room { rows_in self < 2 ^ 32 - 1 }
+        requires global { IsSeenAs self.global (global_skew clocks.now) global }
+        requires near { IsSeenAs self.near (near_skew topo.now.edges clocks.now) near }
         ensures value { result ≡ added topo.now self clocks.now }
         ensures rows { rows_in result ≡ rows_in self + 1 }
     {
-        let global = global_skew(clocks);
-        let raised = self.raised_global(global).raised_near(topo, clocks, global);
+        let raised = self.raised_global(global).raised_near(topo, clocks, near);
         Tally {
             rows: self.rows + 1,
             ..raised
@@ -101,12 +145,13 @@ impl Tally {
 
     /// The tally with the global skew of one more row.
     #[tactic(auto, unfolding(crate::specs::Running::raised_global))]
-    fn raised_global(self, skew: u64) -> Self
-        ensures { result ≡ raised_global self skew }
+    fn raised_global(self, seen: u64) -> Self
+        ensures value { (skew : ℕ) → IsSeenAs self.global skew seen → result ≡ raised_global self skew }
+        ensures near { result.near ≡ self.near }
     {
-        if skew > self.global {
+        if seen > self.global {
             Tally {
-                global: skew,
+                global: seen,
                 global_at: self.rows,
                 ..self
             }
@@ -115,24 +160,18 @@ impl Tally {
         }
     }
 
-    /// The tally with the neighbour skew of one more row. That is at most the row's global skew, so
-    /// most rows are done with without a look at their edges.
+    /// The tally with the neighbour skew of one more row.
     #[tactic(auto, unfolding(crate::specs::Running::raised_near))]
-    fn raised_near(self, topo: &Topology, clocks: &[u64], global: u64) -> Self
-        requires graph { IsGraph topo.now }
+    fn raised_near(self, topo: &Topology, clocks: &[u64], seen: u64) -> Self
         requires count { length clocks.now ≡ topo.now.nodes }
-        requires global { global ≡ global_skew clocks.now }
+        requires near { IsSeenAs self.near (near_skew topo.now.edges clocks.now) seen }
         ensures { result ≡ raised_near topo.now.edges self clocks.now }
     {
-        if global <= self.near {
-            return self;
-        }
-        let near = near_skew(topo, clocks);
-        if near > self.near {
+        if seen > self.near {
             Tally {
-                near,
+                near: seen,
                 near_at: self.rows,
-                near_edge: first_edge(topo, clocks, near),
+                near_edge: first_edge(topo, clocks, seen),
                 ..self
             }
         } else {

@@ -1,4 +1,4 @@
-ghost use Rattle.std.specs.Prelude.{◌≡◌, ◌+◌, ◌<◌, ◌^◌, ◌||◌, All, is_some, length, nat_le, nat_lt};
+ghost use Rattle.std.specs.Prelude.{◌≡◌, ◌+◌, ◌<◌, ◌≤◌, ◌^◌, ◌||◌, All, IsTrue, is_some, length, nat_le, nat_lt};
 ghost use Rattle.std.specs.List.{position};
 ghost use Rattle.gs_world.specs.Members.{advance_members};
 
@@ -8,7 +8,23 @@ use crate::member::Member;
 pub(crate) fn first_drift(lo: u32, hi: u32, incs: &[u32]) -> Option<usize>
     ensures { result ≡ position (λ h. nat_lt h lo || nat_lt hi h) incs.now }
 {
+    if are_within(lo, hi, incs) {
+        return None;
+    }
     incs.iter().position(|h| *h < lo || *h > hi)
+}
+
+/// Whether all increments are in their bounds: in a pass without a branch, which goes several at a time.
+fn are_within(lo: u32, hi: u32, incs: &[u32]) -> bool
+    ensures { IsTrue result → All (λ h. (lo ≤ h) × (h ≤ hi)) incs.now }
+{
+    let mut least = u32::MAX;
+    let mut greatest = 0;
+    for h in incs {
+        least = least.min(*h);
+        greatest = greatest.max(*h);
+    }
+    lo <= least && greatest <= hi
 }
 
 /// The first node whose last tick is as old as it may get.
