@@ -1,0 +1,5 @@
+pub mod Windows
+pub mod Pushed
+pub mod Places
+pub mod Giving
+pub mod FromOne

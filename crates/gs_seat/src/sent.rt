@@ -1,0 +1,50 @@
+ghost use Rattle.std.specs.Prelude.{◌≡◌};
+ghost use Rattle.gs_beacon.specs.Beacons.{IsBeacon};
+
+use gs_beacon::Beacon;
+use std::marker::Model;
+
+/// A beacon that was sent, and the quantum that it was sent in.
+#[derive(Clone, Copy, Debug)]
+pub struct SentBeacon {
+    quantum: u32,
+    beacon: Beacon,
+}
+
+impl Model for SentBeacon {
+    ghost use Rattle.gs_run.specs.World.{Sent};
+    ghost use Rattle.gs_beacon.specs.Beacons.{IsBeacon};
+
+    ghost Value = { Sent };
+
+    ghost view = { λ a. record { quantum = a.quantum; beacon = a.beacon } };
+
+    ghost invariant = { λ a. IsBeacon a.beacon };
+
+    ghost inverse = { λ s. record { quantum = s.quantum; beacon = s.beacon } };
+}
+
+impl SentBeacon {
+    /// A beacon that is sent in this quantum.
+    pub(crate) fn new(quantum: u32, beacon: Beacon) -> Self
+        requires { IsBeacon beacon }
+        ensures { result ≡ record { quantum = quantum; beacon = beacon } }
+    {
+        SentBeacon { quantum, beacon }
+    }
+
+    /// The quantum that it was sent in.
+    pub fn quantum(&self) -> u32
+        ensures { result ≡ self.now.quantum }
+    {
+        self.quantum
+    }
+
+    /// What was sent.
+    pub fn beacon(&self) -> &Beacon
+        ensures value { result.now ≡ self.now.beacon }
+        ensures beacon { IsBeacon result.now }
+    {
+        &self.beacon
+    }
+}
