@@ -1,0 +1,17 @@
+use std::sync::atomic::{AtomicBool, Ordering};
+use std::thread;
+
+/// For how many turns a gate holds a thread.
+pub(crate) const TURNS: u64 = 100_000_000;
+
+/// Waits until the flag is set, for so many turns at most, and tells whether it is. Each turn leaves
+/// the processor to other threads.
+pub(crate) fn is_set_within(flag: &AtomicBool, turns: u64) -> bool {
+    for _ in 0..turns {
+        if flag.load(Ordering::SeqCst) {
+            return true;
+        }
+        thread::yield_now();
+    }
+    flag.load(Ordering::SeqCst)
+}
