@@ -1,0 +1,5 @@
+pub mod Keeping
+pub mod Owning
+pub mod Entering
+pub mod Walking
+pub mod Comparing

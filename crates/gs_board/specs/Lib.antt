@@ -1,0 +1,7 @@
+pub mod Ledger
+pub mod Entries
+pub mod Slips
+pub mod Faults
+pub mod Torn
+pub mod Seen
+pub mod Boards
