@@ -1,0 +1,6 @@
+pub mod Answers
+pub mod Laws
+pub mod Lists
+pub mod Passes
+pub mod Rule
+pub mod Telling
