@@ -1,17 +1,33 @@
-use crate::{Pending, Timed, begin, finish, order_run};
-use gs_plan::check;
+ghost use Rattle.std.specs.Prelude.{◌≡◌};
+ghost use Rattle.gs_plan.specs.Plans.{text_of};
+
+use crate::{Pending, Timed, begin, commit_waits_order_events, finish, order_run};
+use gs_plan::{Plan, check};
 use gs_planfile::base;
 use gs_script::Script;
-use std::test::Fail;
+use std::alloc::Global;
+
+/// Whether a play with an event every 10 quanta has these.
+fn has_events(alloc: Global, plan: &Plan, script: &Script, wanted: &[Timed]) -> bool
+    requires { script.now.text ≡ text_of plan.now }
+{
+    match order_run(alloc, plan, script, 10) {
+        Ok(events) => events.as_slice() == wanted,
+        Err(_) => false,
+    }
+}
 
 /// A steady play of two nodes over 30 quanta with an event every 10: the first finishes as soon as its
 /// clock is above 100000 + 103125.
 #[test]
-fn events_wait_for_the_global_bound(rt: HostRuntime) -> Result<(), Fail> {
+fn events_wait_for_the_global_bound(rt: HostRuntime) {
     let alloc = rt.alloc();
-    let plan = check(alloc, &base(alloc, 2)).map_err(|_| "the plan is refused")?;
-    let script = Script::steady(alloc, 30, &plan).map_err(|_| "the script is refused")?;
-    let events = order_run(alloc, &plan, &script, 10).map_err(|_| "the play stops")?;
+    let Ok(plan) = check(alloc, &base(alloc, 2)) else {
+        panic!(rt; "the plan is refused");
+    };
+    let Ok(script) = Script::steady(alloc, 30, &plan) else {
+        panic!(rt; "the script is refused");
+    };
     let wanted = [
         Timed {
             node: 0,
@@ -32,20 +48,24 @@ fn events_wait_for_the_global_bound(rt: HostRuntime) -> Result<(), Fail> {
             finished: None,
         },
     ];
-    assert_eq!(rt; events.len(), wanted.len());
-    for (event, want) in events.iter().zip(&wanted) {
-        assert!(rt; event == want);
-    }
-    Ok(())
+    assert!(rt; has_events(alloc, &plan, &script, &wanted));
+    commit_waits_order_events();
 }
 
-/// The event is handed back at the last clock of its wait, and is finished at the next.
-#[test]
-fn wait_is_over_above_the_bound(rt: HostRuntime) -> Result<(), Fail> {
-    let alloc = rt.alloc();
-    let plan = check(alloc, &base(alloc, 2)).map_err(|_| "the plan is refused")?;
+/// Whether an event that began at 100000 is handed back at the last clock of its wait, and is finished at
+/// the next.
+fn waits(plan: &Plan) -> bool {
     let pending = begin(100_000);
-    assert!(rt; finish(&plan, pending, 203_125) == Err(Pending { stamp: 100_000 }));
-    assert!(rt; finish(&plan, pending, 203_126) == Ok(100_000));
-    Ok(())
+    let early = finish(plan, pending, 203_125);
+    let done = finish(plan, pending, 203_126);
+    early == Err(Pending { stamp: 100_000 }) && done == Ok(100_000)
+}
+
+#[test]
+fn wait_is_over_above_the_bound(rt: HostRuntime) {
+    let alloc = rt.alloc();
+    match check(alloc, &base(alloc, 2)) {
+        Ok(plan) => assert!(rt; waits(&plan)),
+        Err(_) => panic!(rt; "the plan is refused"),
+    }
 }

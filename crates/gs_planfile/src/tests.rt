@@ -1,11 +1,11 @@
+ghost use Rattle.gs_planfile.specs.Texts.{IsText};
+
 use super::key::Key;
 use super::key::PlanFileFault::{self, Extra, Kind, Missing, OutOfMemory, Range, Toml, Utf8};
 use super::read::read_plan;
 use super::text::{EdgeList, EdgeSpan, PlanText, Shape, Spans, base};
 use super::write::migrate;
-use std::alloc::Global;
-use std::process::Abort;
-use std::test::Fail;
+use std::alloc::{AllocError, Global};
 
 const LINE: &str = "version = 1
 cluster = 7
@@ -23,55 +23,52 @@ age = 412
 ";
 
 /// `LINE` with another text at one place. A bar stands for the end of a line.
-fn edited(alloc: Global, old: &str, new: &str) -> Result<String, Fail> {
-    let old = old.replace(alloc, "|", "\n")?;
-    let new = new.replace(alloc, "|", "\n")?;
-    let (before, after) = LINE.split_once(old.as_str()).ok_or("no such place")?;
-    let mut file = String::from_str(alloc, before)?;
-    file.push_str(new.as_str())?;
-    file.push_str(after)?;
-    Ok(file)
-}
-
-/// All that a plan says.
-fn shown(alloc: Global, text: &PlanText) -> Result<String, Fail> {
-    Ok(format!(in alloc; "{text:?}")?)
-}
-
-/// What a plan file says.
-fn said(alloc: Global, file: &[u8]) -> Result<String, Fail> {
-    let text = read_plan(alloc, file).ok().ok_or("refused")?;
-    shown(alloc, &text)
-}
-
-/// What it says once it was migrated and read again.
-fn migrated(alloc: Global, file: &[u8]) -> Result<String, Fail> {
-    let text = read_plan(alloc, file).ok().ok_or("refused")?;
-    let newest = migrate(alloc, &text)?;
-    said(alloc, newest.as_slice())
-}
-
-/// Why a plan file is refused, or `read`.
-fn why(alloc: Global, file: &[u8]) -> Result<String, Fail> {
-    match read_plan(alloc, file).err() {
-        Some(fault) => Ok(fault.to_string(alloc)?),
-        None => Ok(String::from_str(alloc, "read")?),
-    }
+fn edited(alloc: Global, old: &str, new: &str) -> Option<String> {
+    let old = old.replace(alloc, "|", "\n").ok()?;
+    let new = new.replace(alloc, "|", "\n").ok()?;
+    let (before, after) = LINE.split_once(old.as_str())?;
+    format!(in alloc; "{before}{new}{after}").ok()
 }
 
 const NUMBERS: &str =
     ", lo: 10000, hi: 10001, mu: 2000, tick: 100, delay_min: 2, delay_max: 12, every: 1, losses: 3, age: 412, ";
 
-/// What is shown of a plan with the numbers of `LINE`.
-fn plan_shown(alloc: Global, version: &str, shape: &str, rest: &str) -> Result<String, Fail> {
-    let mut text = String::from_str(alloc, "PlanText { version: ")?;
-    text.push_str(version)?;
-    text.push_str(", cluster: 7, shape: ")?;
-    text.push_str(shape)?;
-    text.push_str(NUMBERS)?;
-    text.push_str(rest)?;
-    text.push_str(" }")?;
-    Ok(text)
+/// Whether this is all that a plan says: the version, the shape, and what follows the numbers of `LINE`.
+fn is_shown(alloc: Global, text: &PlanText, version: &str, said: &str) -> bool {
+    let Some((shape, rest)) = said.split_once(" => ") else {
+        return false;
+    };
+    let wanted = format!(in alloc;
+        "PlanText {{ version: {version}, cluster: 7, shape: {shape}{NUMBERS}{rest} }}"
+    );
+    match (format!(in alloc; "{text:?}"), wanted) {
+        (Ok(shown), Ok(wanted)) => shown.as_str() == wanted.as_str(),
+        _ => false,
+    }
+}
+
+/// Whether a plan says so once it was migrated and read again.
+fn is_migrated(alloc: Global, text: &PlanText, said: &str) -> bool
+    requires { IsText text.now }
+{
+    let Ok(newest) = migrate(alloc, text) else {
+        return false;
+    };
+    match read_plan(alloc, newest.as_slice()) {
+        Ok(text) => is_shown(alloc, &text, "Two", said),
+        Err(_) => false,
+    }
+}
+
+/// Whether a file says so, and once migrated the same as version 2.
+fn file_says(alloc: Global, file: &[u8], said: &str) -> bool {
+    let Some((version, said)) = said.split_once(" => ") else {
+        return false;
+    };
+    match read_plan(alloc, file) {
+        Ok(text) => is_shown(alloc, &text, version, said) && is_migrated(alloc, &text, said),
+        Err(_) => false,
+    }
 }
 
 /// Edits of `LINE` that are plans, with what they say: the version, the shape, and what follows the
@@ -88,71 +85,77 @@ version = 1 => version = 2 => Two => Line(33) => kappa: None, levels: 4, port: 4
 version = 1 => version = 2|spans = [[1, 2, 2, 2], [3, 4, 5, 6, 4611686018427387903]] => Two => Line(33) => kappa: None, levels: 4, port: 40000, spans: Spans { items: [EdgeSpan { a: 1, b: 2, delay_min: 2, delay_max: 2, kappa: None }, EdgeSpan { a: 3, b: 4, delay_min: 5, delay_max: 6, kappa: Some(4611686018427387903) }] }
 ";
 
-/// One case of `SAID`: the file says so, and once migrated the same as version 2.
-fn says(rt: &impl Abort, alloc: Global, case: &str) -> Result<(), Fail> {
-    let (old, after) = case.split_once(" => ").ok_or("no edit")?;
-    let (new, after) = after.split_once(" => ").ok_or("no version")?;
-    let (version, after) = after.split_once(" => ").ok_or("no shape")?;
-    let (shape, rest) = after.split_once(" => ").ok_or("no rest")?;
-    let file = edited(alloc, old, new)?;
-    let wanted = plan_shown(alloc, version, shape, rest)?;
-    assert_eq!(rt; said(alloc, file.as_bytes())?.as_str(), wanted.as_str());
-    let newest = plan_shown(alloc, "Two", shape, rest)?;
-    assert_eq!(rt; migrated(alloc, file.as_bytes())?.as_str(), newest.as_str());
-    Ok(())
+/// Whether one case of `SAID` holds.
+fn says(alloc: Global, case: &str) -> bool {
+    let Some((old, after)) = case.split_once(" => ") else {
+        return false;
+    };
+    let Some((new, said)) = after.split_once(" => ") else {
+        return false;
+    };
+    match edited(alloc, old, new) {
+        Some(file) => file_says(alloc, file.as_bytes(), said),
+        None => false,
+    }
 }
 
 #[test]
-fn says_and_migrates(rt: HostRuntime) -> Result<(), Fail> {
+fn says_and_migrates(rt: HostRuntime) {
     for case in SAID.lines() {
-        says(&rt, rt.alloc(), case)?;
+        assert!(rt; says(rt.alloc(), case), "{case}");
     }
-    Ok(())
 }
 
-/// Two edges.
-fn listed(alloc: Global) -> Result<EdgeList, Fail> {
-    let mut edges = Vec::new(alloc);
-    edges.push((0, 1))?;
-    edges.push((1, 2))?;
-    Ok(EdgeList::from_vec(edges))
-}
-
-/// One span with all its numbers.
-fn one_span(alloc: Global) -> Result<Spans, Fail> {
-    let mut spans = Vec::new(alloc);
-    spans.push(EdgeSpan {
+/// A plan of two edges, and of one span with all its numbers.
+fn listed(alloc: Global) -> Result<PlanText, AllocError> {
+    let edges = Vec::from_array(alloc, [(0, 1), (1, 2)])?;
+    let span = EdgeSpan {
         a: 1,
         b: 2,
         delay_min: 3,
         delay_max: 4,
         kappa: Some(5),
-    })?;
-    Ok(Spans::from_vec(spans))
+    };
+    let spans = Vec::from_array(alloc, [span])?;
+    let mut text = base(alloc, 3);
+    text.shape = Shape::Edges(3, EdgeList::from_vec(edges));
+    text.spans = Spans::from_vec(spans);
+    Ok(text)
+}
+
+/// Whether two plans say the same.
+fn say_the_same(alloc: Global, one: &PlanText, other: &PlanText) -> bool {
+    match (format!(in alloc; "{one:?}"), format!(in alloc; "{other:?}")) {
+        (Ok(one), Ok(other)) => one.as_str() == other.as_str(),
+        _ => false,
+    }
 }
 
 #[test]
-fn a_copy_says_the_same(rt: HostRuntime) -> Result<(), Fail> {
+fn a_copy_says_the_same(rt: HostRuntime) {
     let alloc = rt.alloc();
-    let mut text = base(alloc, 3);
-    text.shape = Shape::Edges(3, listed(alloc)?);
-    text.spans = one_span(alloc)?;
-    let copy = text.copy(alloc)?;
-    let wanted = shown(alloc, &text)?;
-    assert_eq!(rt; shown(alloc, &copy)?.as_str(), wanted.as_str());
-    Ok(())
+    let Ok(text) = listed(alloc) else {
+        panic!(rt; "out of memory");
+    };
+    match text.copy(alloc) {
+        Ok(copy) => assert!(rt; say_the_same(alloc, &copy, &text)),
+        Err(_) => panic!(rt; "out of memory"),
+    }
 }
 
 /// The built-in line of 33 is `LINE`, and `NEWEST` is how version 2 writes it.
 #[test]
-fn writes_the_built_in_line(rt: HostRuntime) -> Result<(), Fail> {
+fn writes_the_built_in_line(rt: HostRuntime) {
     let alloc = rt.alloc();
     let built_in = base(alloc, 33);
-    let wanted = shown(alloc, &built_in)?;
-    assert_eq!(rt; said(alloc, LINE.as_bytes())?.as_str(), wanted.as_str());
-    let newest = migrate(alloc, &built_in)?;
-    assert_eq!(rt; newest.as_slice(), NEWEST.as_bytes());
-    Ok(())
+    match read_plan(alloc, LINE.as_bytes()) {
+        Ok(text) => assert!(rt; say_the_same(alloc, &text, &built_in)),
+        Err(_) => panic!(rt; "the plan is refused"),
+    }
+    match migrate(alloc, &built_in) {
+        Ok(newest) => assert!(rt; newest.as_slice() == NEWEST.as_bytes()),
+        Err(_) => panic!(rt; "out of memory"),
+    }
 }
 
 const NEWEST: &str = "age = 412
@@ -219,73 +222,81 @@ version = 1 => version = 1|spans = 7 => extra
 age = 412 => age = 412|ages = 412 => extra
 ";
 
-/// One case of `REFUSED`.
-fn refuses(rt: &impl Abort, alloc: Global, case: &str) -> Result<(), Fail> {
-    let (old, after) = case.split_once(" => ").ok_or("no edit")?;
-    let (new, fault) = after.split_once(" => ").ok_or("no fault")?;
-    let file = edited(alloc, old, new)?;
-    assert_eq!(rt; why(alloc, file.as_bytes())?.as_str(), fault, "{case}");
-    Ok(())
-}
-
-#[test]
-fn refuses_at_the_first_fault(rt: HostRuntime) -> Result<(), Fail> {
-    for case in REFUSED.lines() {
-        refuses(&rt, rt.alloc(), case)?;
+/// Whether a fault is told in these words.
+fn has_words(alloc: Global, fault: PlanFileFault, words: &str) -> bool {
+    match fault.to_string(alloc) {
+        Ok(told) => told.as_str() == words,
+        Err(_) => false,
     }
-    assert_eq!(rt; why(rt.alloc(), b"")?.as_str(), "missing version");
-    Ok(())
 }
 
-fn has_words(
-    rt: &impl Abort,
-    alloc: Global,
-    fault: PlanFileFault,
-    words: &str,
-) -> Result<(), Fail> {
-    assert_eq!(rt; fault.to_string(alloc)?.as_str(), words);
-    Ok(())
+/// Whether a plan file is refused in these words.
+fn is_refused(alloc: Global, file: &[u8], words: &str) -> bool {
+    match read_plan(alloc, file) {
+        Ok(_) => false,
+        Err(fault) => has_words(alloc, fault, words),
+    }
+}
+
+/// Whether one case of `REFUSED` holds.
+fn refuses(alloc: Global, case: &str) -> bool {
+    let Some((old, after)) = case.split_once(" => ") else {
+        return false;
+    };
+    let Some((new, fault)) = after.split_once(" => ") else {
+        return false;
+    };
+    match edited(alloc, old, new) {
+        Some(file) => is_refused(alloc, file.as_bytes(), fault),
+        None => false,
+    }
 }
 
 #[test]
-fn each_fault_has_its_words(rt: HostRuntime) -> Result<(), Fail> {
-    let alloc = rt.alloc();
-    has_words(&rt, alloc, Utf8, "utf8")?;
-    has_words(&rt, alloc, Toml, "toml")?;
-    has_words(&rt, alloc, Missing(Key::DelayMin), "missing delay_min")?;
-    has_words(&rt, alloc, Kind(Key::Spans), "kind spans")?;
-    has_words(&rt, alloc, Range(Key::Version), "range version")?;
-    has_words(&rt, alloc, Extra, "extra")?;
-    has_words(&rt, alloc, OutOfMemory, "out of memory")?;
-    Ok(())
+fn refuses_at_the_first_fault(rt: HostRuntime) {
+    for case in REFUSED.lines() {
+        assert!(rt; refuses(rt.alloc(), case), "{case}");
+    }
+    assert!(rt; is_refused(rt.alloc(), b"", "missing version"));
 }
 
-/// Why `LINE` with a value of so many brackets is refused.
-fn why_deep(alloc: Global, depth: usize) -> Result<Option<PlanFileFault>, Fail> {
+#[test]
+fn each_fault_has_its_words(rt: HostRuntime) {
+    let alloc = rt.alloc();
+    assert!(rt; has_words(alloc, Utf8, "utf8"));
+    assert!(rt; has_words(alloc, Toml, "toml"));
+    assert!(rt; has_words(alloc, Missing(Key::DelayMin), "missing delay_min"));
+    assert!(rt; has_words(alloc, Kind(Key::Spans), "kind spans"));
+    assert!(rt; has_words(alloc, Range(Key::Version), "range version"));
+    assert!(rt; has_words(alloc, Extra, "extra"));
+    assert!(rt; has_words(alloc, OutOfMemory, "out of memory"));
+}
+
+/// `LINE` with a value of so many brackets.
+fn deep(alloc: Global, depth: usize) -> Result<String, AllocError> {
     let open = "[".repeat(alloc, depth)?;
     let close = "]".repeat(alloc, depth)?;
-    let mut file = String::from_str(alloc, LINE)?;
-    file.push_str("deep = ")?;
-    file.push_str(open.as_str())?;
-    file.push_str(close.as_str())?;
-    file.push_str("\n")?;
-    Ok(read_plan(alloc, file.as_bytes()).err())
+    format!(in alloc; "{LINE}deep = {open}{close}\n")
 }
 
-/// Why so many brackets alone are.
-fn why_brackets(alloc: Global, count: usize) -> Result<Option<PlanFileFault>, Fail> {
-    let brackets = "[".repeat(alloc, count)?;
-    Ok(read_plan(alloc, brackets.as_bytes()).err())
+/// Whether such a file is refused in these words.
+fn is_refused_deep(alloc: Global, depth: usize, words: &str) -> bool {
+    match deep(alloc, depth) {
+        Ok(file) => is_refused(alloc, file.as_bytes(), words),
+        Err(_) => false,
+    }
 }
 
 /// A text of a depth that TOML's reader takes is a plan with one key too many; one deeper, and a
 /// mebibyte of brackets, is no document.
 #[test]
-fn refuses_depth_and_bytes(rt: HostRuntime) -> Result<(), Fail> {
+fn refuses_depth_and_bytes(rt: HostRuntime) {
     let alloc = rt.alloc();
-    assert_eq!(rt; why_deep(alloc, 80)?, Some(Extra));
-    assert_eq!(rt; why_deep(alloc, 81)?, Some(Toml));
-    assert_eq!(rt; why_brackets(alloc, 1_048_576)?, Some(Toml));
-    assert_eq!(rt; read_plan(alloc, &[0xff]).err(), Some(Utf8));
-    Ok(())
+    assert!(rt; is_refused_deep(alloc, 80, "extra"));
+    assert!(rt; is_refused_deep(alloc, 81, "toml"));
+    match "[".repeat(alloc, 1_048_576) {
+        Ok(brackets) => assert!(rt; is_refused(alloc, brackets.as_bytes(), "toml")),
+        Err(_) => panic!(rt; "out of memory"),
+    }
+    assert!(rt; is_refused(alloc, &[0xff], "utf8"));
 }

@@ -1,36 +1,52 @@
+ghost use Rattle.std.specs.Prelude.{◌≡◌};
+ghost use Rattle.gs_plan.specs.Plans.{text_of};
+
 use crate::{Rows, rows_are_reported, rows_are_steady};
-use gs_plan::check;
+use gs_plan::{Plan, check};
 use gs_planfile::base;
 use gs_script::Script;
-use std::test::Fail;
+use std::alloc::Global;
 
-/// A play of one quantum is taken on once, and then it is over.
-#[test]
-fn a_play_goes_on_quantum_by_quantum(rt: HostRuntime) -> Result<(), Fail> {
-    rows_are_reported();
-    rows_are_steady();
-    let alloc = rt.alloc();
-    let plan = check(alloc, &base(alloc, 2)).map_err(|_| "the plan is refused")?;
-    let script = Script::steady(alloc, 1, &plan).map_err(|_| "the script is refused")?;
-    let mut rows = Rows::start(alloc, &plan, &script)?;
+/// Whether a play of one quantum on two nodes is taken on once, and then it is over.
+fn is_taken_on_once(alloc: Global, plan: &Plan, script: &Script) -> bool
+    requires { script.now.text ≡ text_of plan.now }
+{
+    let Ok(mut rows) = Rows::start(alloc, plan, script) else {
+        return false;
+    };
     let went_on = rows.next(alloc) == Ok(true);
-    assert!(rt; went_on && rows.quanta() == 1 && rows.fast() == 0);
-    assert!(rt; rows.clocks() == [10_000, 10_000].as_slice());
-    assert!(rt; rows.next(alloc) == Ok(false));
-    Ok(())
+    let has_row = rows.quanta() == 1 && rows.fast() == 0;
+    let has_clocks = rows.clocks() == [10_000, 10_000].as_slice();
+    went_on && has_row && has_clocks && rows.next(alloc) == Ok(false)
 }
 
-/// A play from clocks that are apart.
-#[test]
-fn clocks_start_apart(rt: HostRuntime) -> Result<(), Fail> {
-    let alloc = rt.alloc();
-    let plan = check(alloc, &base(alloc, 2)).map_err(|_| "the plan is refused")?;
+/// Whether a play of two nodes starts from clocks that are apart.
+fn starts_apart(alloc: Global, plan: &Plan, script: &Script) -> bool
+    requires { script.now.text ≡ text_of plan.now }
+{
+    let Ok(clocks) = Vec::from_array(alloc, [0, 1_000_000]) else {
+        return false;
+    };
     if plan.topo().nodes() != 2 {
-        return Err("not two nodes")?;
+        return false;
     }
-    let script = Script::steady(alloc, 0, &plan).map_err(|_| "the script is refused")?;
-    let clocks = Vec::from_array(alloc, [0, 1_000_000])?;
-    let rows = Rows::start_each(alloc, &plan, &script, clocks)?;
-    assert!(rt; rows.clocks() == [0, 1_000_000].as_slice());
-    Ok(())
+    match Rows::start_each(alloc, plan, script, clocks) {
+        Ok(rows) => rows.clocks() == [0, 1_000_000].as_slice(),
+        Err(_) => false,
+    }
+}
+
+#[test]
+fn a_play_goes_on_quantum_by_quantum_from_any_clocks(rt: HostRuntime) {
+    let alloc = rt.alloc();
+    let Ok(plan) = check(alloc, &base(alloc, 2)) else {
+        panic!(rt; "the plan is refused");
+    };
+    let Ok(script) = Script::steady(alloc, 1, &plan) else {
+        panic!(rt; "the script is refused");
+    };
+    assert!(rt; is_taken_on_once(alloc, &plan, &script));
+    assert!(rt; starts_apart(alloc, &plan, &script));
+    rows_are_reported();
+    rows_are_steady();
 }

@@ -3,24 +3,19 @@ ghost use Rattle.gs_plan.specs.Plans.{text_of};
 
 use crate::{Script, ScriptFault, read_script, scripts_are_within};
 use gs_plan::{Plan, check};
-use gs_planfile::{EdgeSpan, PlanText, Shape, Spans, Version, base};
-use std::alloc::Global;
-use std::test::Fail;
-
-/// A plan of this text.
-fn planned(alloc: Global, text: &PlanText) -> Result<Plan, Fail> {
-    Ok(check(alloc, text).map_err(|_| "the plan is refused")?)
-}
+use gs_planfile::{EdgeSpan, Shape, Spans, Version, base};
+use std::alloc::{AllocError, Global};
+use std::process::Abort;
 
 /// A ring of `n` nodes with the numbers of the built-in plans.
-fn ring(alloc: Global, n: u32) -> Result<Plan, Fail> {
+fn ring(alloc: Global, n: u32) -> Option<Plan> {
     let mut text = base(alloc, n);
     text.shape = Shape::Ring(n);
-    planned(alloc, &text)
+    check(alloc, &text).ok()
 }
 
 /// A line of three nodes whose second edge has the delays 3 to 4.
-fn spanned(alloc: Global) -> Result<Plan, Fail> {
+fn spanned(alloc: Global) -> Option<Plan> {
     let span = EdgeSpan {
         a: 1,
         b: 2,
@@ -28,17 +23,44 @@ fn spanned(alloc: Global) -> Result<Plan, Fail> {
         delay_max: 4,
         kappa: None,
     };
+    let spans = Vec::from_slice(alloc, &[span]).ok()?;
     let mut text = base(alloc, 3);
     text.version = Version::Two;
-    text.spans = Spans::from_vec(Vec::from_slice(alloc, &[span])?);
-    planned(alloc, &text)
+    text.spans = Spans::from_vec(spans);
+    check(alloc, &text).ok()
 }
 
-/// Why a script is refused for a plan, or `read`.
-fn why(alloc: Global, plan: &Plan, bytes: &[u8]) -> Result<String, Fail> {
-    match read_script(alloc, bytes, plan).err() {
-        Some(fault) => Ok(fault.to_string(alloc)?),
-        None => Ok(String::from_str(alloc, "read")?),
+/// Whether a script is refused so for a plan, or `read`.
+fn is_said(alloc: Global, plan: &Plan, bytes: &[u8], wanted: &str) -> bool {
+    match read_script(alloc, bytes, plan) {
+        Ok(_) => wanted == "read",
+        Err(fault) => is_told(alloc, fault, wanted),
+    }
+}
+
+/// Whether a fault is told in these words.
+fn is_told(alloc: Global, fault: ScriptFault, words: &str) -> bool {
+    match fault.to_string(alloc) {
+        Ok(told) => told.as_str() == words,
+        Err(_) => false,
+    }
+}
+
+/// This record behind these.
+fn behind(alloc: Global, before: &str, record: &str) -> Result<String, AllocError> {
+    let mut script = String::from_str(alloc, before)?;
+    script.push_str(record)?;
+    Ok(script)
+}
+
+/// Whether the record of a case, behind these, has the fault that the case tells.
+fn holds(alloc: Global, plan: &Plan, before: &str, case: &str) -> bool {
+    let Some((record, wanted)) = case.split_once(" -> ") else {
+        return false;
+    };
+    match behind(alloc, before, record) {
+        Ok(script) => is_said(alloc, plan, script.as_bytes(), wanted),
+        Err(_) => false,
     }
 }
 
@@ -103,39 +125,38 @@ delay,1,*,1,100,4294967298 -> bound 2
 ";
 
 #[test]
-fn the_first_fault_of_a_record_is_named(rt: HostRuntime) -> Result<(), Fail> {
+fn the_first_fault_of_a_record_is_named(rt: HostRuntime) {
     let alloc = rt.alloc();
-    let plan = planned(alloc, &base(alloc, 3))?;
-    for (before, cases) in [("", FIRST_RECORDS), ("quanta,100\n", SECOND_RECORDS)] {
-        for case in cases.lines() {
-            let (record, wanted) = case.split_once(" -> ").ok_or("no case")?;
-            let script = format!(in alloc; "{before}{record}")?;
-            let said = why(alloc, &plan, script.as_bytes())?;
-            assert_eq!(rt; said.as_str(), wanted, "{record}");
-        }
+    let Ok(plan) = check(alloc, &base(alloc, 3)) else {
+        panic!(rt; "the plan is refused");
+    };
+    for case in FIRST_RECORDS.lines() {
+        assert!(rt; holds(alloc, &plan, "", case), "{case}");
     }
-    Ok(())
+    for case in SECOND_RECORDS.lines() {
+        assert!(rt; holds(alloc, &plan, "quanta,100\n", case), "{case}");
+    }
 }
 
 #[test]
-fn the_first_record_at_fault_is_named(rt: HostRuntime) -> Result<(), Fail> {
+fn the_first_record_at_fault_is_named(rt: HostRuntime) {
     let alloc = rt.alloc();
-    let plan = planned(alloc, &base(alloc, 3))?;
-    for (script, wanted) in [
-        (b"".as_slice(), "first"),
-        (b"\xff,100".as_slice(), "csv 1"),
-        (b"quanta,\xff".as_slice(), "csv 1"),
-        (b"quanta,100\ndance,\xff\ndance".as_slice(), "csv 2"),
-        (
-            b"quanta,100\ndrift,0,1,1,10000\ndance\n\xff".as_slice(),
-            "word 3",
-        ),
-    ] {
-        assert_eq!(rt; why(alloc, &plan, script)?.as_str(), wanted);
-    }
-    let memory = ScriptFault::OutOfMemory.to_string(alloc)?;
-    assert_eq!(rt; memory.as_str(), "out of memory");
-    Ok(())
+    let Ok(plan) = check(alloc, &base(alloc, 3)) else {
+        panic!(rt; "the plan is refused");
+    };
+    assert!(rt; is_said(alloc, &plan, b"", "first"));
+    assert!(rt; is_said(alloc, &plan, b"\xff,100", "csv 1"));
+    assert!(rt; is_said(alloc, &plan, b"quanta,\xff", "csv 1"));
+    assert!(rt; is_said(alloc, &plan, b"quanta,100\ndance,\xff\ndance", "csv 2"));
+    assert!(rt;
+        is_said(
+            alloc,
+            &plan,
+            b"quanta,100\ndrift,0,1,1,10000\ndance\n\xff",
+            "word 3"
+        )
+    );
+    assert!(rt; is_told(alloc, ScriptFault::OutOfMemory, "out of memory"));
 }
 
 /// Records for the line with a short edge, and whether their delays are in range.
@@ -159,63 +180,81 @@ delay,0,0,1,9,5 -> edge 2
 ";
 
 #[test]
-fn delays_are_in_the_range_of_each_edge(rt: HostRuntime) -> Result<(), Fail> {
+fn delays_are_in_the_range_of_each_edge(rt: HostRuntime) {
     let alloc = rt.alloc();
-    for (plan, cases) in [
-        (spanned(alloc)?, DELAYS),
-        (planned(alloc, &base(alloc, 1))?, NO_EDGE),
-    ] {
-        for case in cases.lines() {
-            let (record, wanted) = case.split_once(" -> ").ok_or("no case")?;
-            let script = format!(in alloc; "quanta,9\n{record}")?;
-            let said = why(alloc, &plan, script.as_bytes())?;
-            assert_eq!(rt; said.as_str(), wanted, "{record}");
-        }
+    let Some(plan) = spanned(alloc) else {
+        panic!(rt; "the plan is refused");
+    };
+    for case in DELAYS.lines() {
+        assert!(rt; holds(alloc, &plan, "quanta,9\n", case), "{case}");
     }
-    Ok(())
 }
 
 #[test]
-fn a_script_has_4096_records(rt: HostRuntime) -> Result<(), Fail> {
+fn delays_with_no_edge_are_in_the_range_of_the_plan(rt: HostRuntime) {
     let alloc = rt.alloc();
-    let plan = planned(alloc, &base(alloc, 2))?;
+    let Ok(plan) = check(alloc, &base(alloc, 1)) else {
+        panic!(rt; "the plan is refused");
+    };
+    for case in NO_EDGE.lines() {
+        assert!(rt; holds(alloc, &plan, "quanta,9\n", case), "{case}");
+    }
+}
+
+/// As many records as a script may have, and then this one.
+fn behind_4096(alloc: Global, record: &[u8]) -> Result<Vec<u8>, AllocError> {
     let mut script = Vec::from_slice(alloc, b"quanta,100\n")?;
     for _ in 0..4095u32 {
         script.extend_from_slice(b"loss,0,1,1,100,1\n")?;
     }
-    assert_eq!(rt; why(alloc, &plan, &script)?.as_str(), "read");
-    for (record, wanted) in [
-        (b"loss,0,1,1,100,1\n".as_slice(), "large"),
-        (b"dance\n".as_slice(), "large"),
-        (b"\xff\n".as_slice(), "csv 4097"),
-    ] {
-        let mut longer = Vec::from_slice(alloc, &script)?;
-        longer.extend_from_slice(record)?;
-        assert_eq!(rt; why(alloc, &plan, &longer)?.as_str(), wanted);
-    }
-    Ok(())
+    script.extend_from_slice(record)?;
+    Ok(script)
 }
 
-/// What a script says of a node in a quantum: its increment and its tick gap.
-fn node_in(plan: &Plan, script: &Script, v: u32, t: u32) -> Option<(u32, u32)>
+/// Whether such a script is refused so, or `read`.
+fn is_said_behind_4096(alloc: Global, plan: &Plan, record: &[u8], wanted: &str) -> bool {
+    match behind_4096(alloc, record) {
+        Ok(script) => is_said(alloc, plan, &script, wanted),
+        Err(_) => false,
+    }
+}
+
+#[test]
+fn a_script_has_4096_records(rt: HostRuntime) {
+    let alloc = rt.alloc();
+    let Ok(plan) = check(alloc, &base(alloc, 2)) else {
+        panic!(rt; "the plan is refused");
+    };
+    assert!(rt; is_said_behind_4096(alloc, &plan, b"", "read"));
+    assert!(rt; is_said_behind_4096(alloc, &plan, b"loss,0,1,1,100,1\n", "large"));
+    assert!(rt; is_said_behind_4096(alloc, &plan, b"dance\n", "large"));
+    assert!(rt; is_said_behind_4096(alloc, &plan, b"\xff\n", "csv 4097"));
+}
+
+/// Whether a script says this of a node in a quantum: its increment and its tick gap.
+fn node_has(plan: &Plan, script: &Script, v: u32, t: u32, inc: u32, gap: u32) -> bool
     requires { script.now.text ≡ text_of plan.now }
 {
-    if v < plan.topo().nodes() {
-        Some((script.inc(v, t), script.gap(v, t)))
-    } else {
-        None
-    }
+    v < plan.topo().nodes() && script.inc(v, t) == inc && script.gap(v, t) == gap
 }
 
-/// What it says of a beacon that is sent in a quantum: its delay, and whether it is lost.
-fn beacon_in(plan: &Plan, script: &Script, from: u32, to: u32, t: u32) -> Option<(u32, bool)>
+/// Whether it says this of a beacon that is sent in a quantum: its delay, and whether it is lost.
+fn beacon_has(
+    plan: &Plan,
+    script: &Script,
+    from: u32,
+    to: u32,
+    t: u32,
+    delay: u32,
+    lost: bool,
+) -> bool
     requires { script.now.text ≡ text_of plan.now }
 {
     let graph = plan.topo();
     if from < graph.nodes() && to < graph.nodes() && graph.adjacent(from, to) {
-        Some((script.delay(from, to, t), script.lost(from, to, t)))
+        script.delay(from, to, t) == delay && script.lost(from, to, t) == lost
     } else {
-        None
+        false
     }
 }
 
@@ -234,134 +273,137 @@ loss,0,1,3,3,0
 loss,*,2,100,100,1
 ";
 
-#[test]
-fn the_last_record_that_matches_wins(rt: HostRuntime) -> Result<(), Fail> {
-    let alloc = rt.alloc();
-    let plan = spanned(alloc)?;
-    let script = read_script(alloc, RECORDS.as_bytes(), &plan).map_err(|_| "refused")?;
-    assert_eq!(rt; script.quanta(), 100);
-    for (v, t, wanted) in [
-        (0, 1, Some((10_001, 100))),
-        (0, 49, Some((10_001, 100))),
-        (0, 50, Some((10_000, 100))),
-        (0, 100, Some((10_000, 100))),
-        (1, 50, Some((10_001, 100))),
-        (1, 4, Some((10_001, 100))),
-        (1, 5, Some((10_001, 60))),
-        (1, 7, Some((10_001, 62))),
-        (2, 7, Some((10_001, 61))),
-        (1, 8, Some((10_001, 100))),
-        (3, 1, None),
-    ] {
-        assert_eq!(rt; node_in(&plan, &script, v, t), wanted, "node {v} in {t}");
-    }
-    for (from, to, t, wanted) in [
-        (0, 1, 2, Some((2, true))),
-        (2, 1, 2, Some((3, false))),
-        (0, 1, 3, Some((3, false))),
-        (1, 0, 4, Some((4, false))),
-        (0, 1, 4, Some((3, true))),
-        (0, 1, 5, Some((4, true))),
-        (0, 1, 6, Some((3, false))),
-        (2, 1, 6, Some((4, false))),
-        (1, 2, 6, Some((3, false))),
-        (1, 2, 99, Some((3, false))),
-        (1, 2, 100, Some((3, true))),
-        (2, 1, 100, Some((3, false))),
-        (0, 2, 1, None),
-        (0, 3, 1, None),
-    ] {
-        assert_eq!(rt;
-            beacon_in(&plan, &script, from, to, t),
-            wanted,
-            "from {from} to {to} in {t}"
-        );
-    }
-    Ok(())
-}
-
-/// How long the increment and the tick gap of a node stay the same.
-fn node_until(plan: &Plan, script: &Script, v: u32, t: u32) -> Option<(u32, u32)>
+/// Asserts what `RECORDS` say of nodes.
+fn last_record_of_a_node_wins(rt: &impl Abort, plan: &Plan, script: &Script)
     requires { script.now.text ≡ text_of plan.now }
 {
-    if v < plan.topo().nodes() {
-        Some((script.inc_run(v, t).until, script.gap_run(v, t).until))
-    } else {
-        None
-    }
+    assert!(rt; node_has(plan, script, 0, 1, 10_001, 100));
+    assert!(rt; node_has(plan, script, 0, 49, 10_001, 100));
+    assert!(rt; node_has(plan, script, 0, 50, 10_000, 100));
+    assert!(rt; node_has(plan, script, 0, 100, 10_000, 100));
+    assert!(rt; node_has(plan, script, 1, 50, 10_001, 100));
+    assert!(rt; node_has(plan, script, 1, 4, 10_001, 100));
+    assert!(rt; node_has(plan, script, 1, 5, 10_001, 60));
+    assert!(rt; node_has(plan, script, 1, 7, 10_001, 62));
+    assert!(rt; node_has(plan, script, 2, 7, 10_001, 61));
+    assert!(rt; node_has(plan, script, 1, 8, 10_001, 100));
 }
 
-/// How long the delay and the loss of a beacon do.
-fn beacon_until(plan: &Plan, script: &Script, from: u32, to: u32, t: u32) -> Option<u32>
+/// And of beacons.
+fn last_record_of_a_beacon_wins(rt: &impl Abort, plan: &Plan, script: &Script)
+    requires { script.now.text ≡ text_of plan.now }
+{
+    assert!(rt; beacon_has(plan, script, 0, 1, 2, 2, true));
+    assert!(rt; beacon_has(plan, script, 2, 1, 2, 3, false));
+    assert!(rt; beacon_has(plan, script, 0, 1, 3, 3, false));
+    assert!(rt; beacon_has(plan, script, 1, 0, 4, 4, false));
+    assert!(rt; beacon_has(plan, script, 0, 1, 4, 3, true));
+    assert!(rt; beacon_has(plan, script, 0, 1, 5, 4, true));
+    assert!(rt; beacon_has(plan, script, 0, 1, 6, 3, false));
+    assert!(rt; beacon_has(plan, script, 2, 1, 6, 4, false));
+    assert!(rt; beacon_has(plan, script, 1, 2, 6, 3, false));
+    assert!(rt; beacon_has(plan, script, 1, 2, 99, 3, false));
+    assert!(rt; beacon_has(plan, script, 1, 2, 100, 3, true));
+    assert!(rt; beacon_has(plan, script, 2, 1, 100, 3, false));
+}
+
+/// Whether the increment and the tick gap of a node last so long.
+fn node_lasts(plan: &Plan, script: &Script, v: u32, t: u32, inc: u32, gap: u32) -> bool
+    requires { script.now.text ≡ text_of plan.now }
+{
+    v < plan.topo().nodes()
+        && script.inc_run(v, t).until == inc
+        && script.gap_run(v, t).until == gap
+}
+
+/// Whether the delay and the loss of a beacon do.
+fn beacon_lasts(plan: &Plan, script: &Script, from: u32, to: u32, t: u32, until: u32) -> bool
     requires { script.now.text ≡ text_of plan.now }
 {
     let graph = plan.topo();
     if from < graph.nodes() && to < graph.nodes() && graph.adjacent(from, to) {
-        Some(script.way_run(from, to, t).until)
+        script.way_run(from, to, t).until == until
     } else {
-        None
+        false
     }
 }
 
+/// Asserts how long what `RECORDS` say lasts.
+fn runs_end_where_a_record_does(rt: &impl Abort, plan: &Plan, script: &Script)
+    requires { script.now.text ≡ text_of plan.now }
+{
+    assert!(rt; node_lasts(plan, script, 0, 1, 49, 6));
+    assert!(rt; node_lasts(plan, script, 0, 50, 100, u32::MAX));
+    assert!(rt; node_lasts(plan, script, 1, 5, 100, 6));
+    assert!(rt; node_lasts(plan, script, 1, 7, 100, 7));
+    assert!(rt; node_lasts(plan, script, 2, 101, u32::MAX, u32::MAX));
+    assert!(rt; beacon_lasts(plan, script, 0, 1, 1, 2));
+    assert!(rt; beacon_lasts(plan, script, 0, 1, 3, 3));
+    assert!(rt; beacon_lasts(plan, script, 1, 2, 5, 99));
+    assert!(rt; beacon_lasts(plan, script, 1, 2, 100, 100));
+}
+
 #[test]
-fn runs_end_where_a_record_begins_or_ends(rt: HostRuntime) -> Result<(), Fail> {
+fn the_last_record_that_matches_wins_until_one_begins_or_ends(rt: HostRuntime) {
     let alloc = rt.alloc();
-    let plan = spanned(alloc)?;
-    let script = read_script(alloc, RECORDS.as_bytes(), &plan).map_err(|_| "refused")?;
-    for (v, t, wanted) in [
-        (0, 1, Some((49, 6))),
-        (0, 50, Some((100, u32::MAX))),
-        (1, 5, Some((100, 6))),
-        (1, 7, Some((100, 7))),
-        (2, 101, Some((u32::MAX, u32::MAX))),
-    ] {
-        assert_eq!(rt; node_until(&plan, &script, v, t), wanted, "node {v} in {t}");
-    }
-    for (from, to, t, wanted) in [
-        (0, 1, 1, Some(2)),
-        (0, 1, 3, Some(3)),
-        (1, 2, 5, Some(99)),
-        (1, 2, 100, Some(100)),
-    ] {
-        let until = beacon_until(&plan, &script, from, to, t);
-        assert_eq!(rt; until, wanted, "from {from} to {to} in {t}");
-    }
-    Ok(())
+    let Some(plan) = spanned(alloc) else {
+        panic!(rt; "the plan is refused");
+    };
+    let Ok(script) = read_script(alloc, RECORDS.as_bytes(), &plan) else {
+        panic!(rt; "the script is refused");
+    };
+    assert_eq!(rt; script.quanta(), 100);
+    last_record_of_a_node_wins(&rt, &plan, &script);
+    last_record_of_a_beacon_wins(&rt, &plan, &script);
+    runs_end_where_a_record_does(&rt, &plan, &script);
 }
 
 #[test]
-fn a_steady_script_has_the_defaults(rt: HostRuntime) -> Result<(), Fail> {
+fn a_steady_script_has_the_defaults(rt: HostRuntime) {
     let alloc = rt.alloc();
     let mut text = base(alloc, 2);
     text.delay_min = 0;
-    let plan = planned(alloc, &text)?;
-    let script = Script::steady(alloc, 10, &plan).map_err(|_| "refused")?;
-    scripts_are_within();
+    let Ok(plan) = check(alloc, &text) else {
+        panic!(rt; "the plan is refused");
+    };
+    let Ok(script) = Script::steady(alloc, 10, &plan) else {
+        panic!(rt; "the script is refused");
+    };
     assert_eq!(rt; script.quanta(), 10);
-    assert_eq!(rt; node_in(&plan, &script, 1, 10), Some((10_000, 100)));
-    assert_eq!(rt; beacon_in(&plan, &script, 1, 0, 1), Some((1, false)));
-    Ok(())
+    assert!(rt; node_has(&plan, &script, 1, 10, 10_000, 100));
+    assert!(rt; beacon_has(&plan, &script, 1, 0, 1, 1, false));
+    scripts_are_within();
+}
+
+/// Whether a script of so many quanta, made or read, is refused so, or is taken.
+fn has_fault(alloc: Global, plan: &Plan, quanta: u64, wanted: Option<ScriptFault>) -> bool {
+    match format!(in alloc; "quanta,{quanta}") {
+        Ok(script) => {
+            Script::steady(alloc, quanta, plan).err() == wanted
+                && read_script(alloc, script.as_bytes(), plan).err() == wanted
+        }
+        Err(_) => false,
+    }
+}
+
+/// The same on a ring of so many nodes.
+fn ring_has_fault(alloc: Global, nodes: u32, quanta: u64, wanted: Option<ScriptFault>) -> bool {
+    match ring(alloc, nodes) {
+        Some(plan) => has_fault(alloc, &plan, quanta, wanted),
+        None => false,
+    }
 }
 
 #[test]
-fn quanta_and_work_have_their_limits(rt: HostRuntime) -> Result<(), Fail> {
+fn quanta_and_work_have_their_limits(rt: HostRuntime) {
     let alloc = rt.alloc();
-    for (nodes, quanta, fault) in [
-        (3, 0, None),
-        (3, 1_048_576, None),
-        (3, 1_048_577, Some(ScriptFault::Large)),
-        (3, u64::MAX, Some(ScriptFault::Large)),
-        (32, 1_048_576, None),
-        (64, 524_288, None),
-        (64, 524_289, Some(ScriptFault::Large)),
-        (64, 1_048_576, Some(ScriptFault::Large)),
-    ] {
-        let plan = ring(alloc, nodes)?;
-        let steady = Script::steady(alloc, quanta, &plan).err();
-        assert_eq!(rt; steady, fault, "{quanta} on {nodes}");
-        let script = format!(in alloc; "quanta,{quanta}")?;
-        let read = read_script(alloc, script.as_bytes(), &plan).err();
-        assert_eq!(rt; read, fault, "{quanta} on {nodes}");
-    }
-    Ok(())
+    let large = Some(ScriptFault::Large);
+    assert!(rt; ring_has_fault(alloc, 3, 0, None));
+    assert!(rt; ring_has_fault(alloc, 3, 1_048_576, None));
+    assert!(rt; ring_has_fault(alloc, 3, 1_048_577, large));
+    assert!(rt; ring_has_fault(alloc, 3, u64::MAX, large));
+    assert!(rt; ring_has_fault(alloc, 32, 1_048_576, None));
+    assert!(rt; ring_has_fault(alloc, 64, 524_288, None));
+    assert!(rt; ring_has_fault(alloc, 64, 524_289, large));
+    assert!(rt; ring_has_fault(alloc, 64, 1_048_576, large));
 }

@@ -1,6 +1,5 @@
-use crate::tests::{gives, run_with};
+use crate::tests::{done, gives, run_with};
 use gs_cli::Status;
-use std::test::Fail;
 
 const PLAN: &str = "version = 1
 cluster = 7
@@ -64,35 +63,48 @@ fast 27117
 ";
 
 #[test]
-fn what_is_generated_is_accepted_and_has_no_breach(rt: HostRuntime) -> Result<(), Fail> {
-    for (line, text) in [
-        ("gen 18446744073709551615 3 plan", PLAN),
-        ("gen 18446744073709551615 3 script", SCRIPT),
-        ("gen 0 3 run", THREE),
-        ("gen 7 32 run", THIRTY_TWO),
-        ("gen 3 512 run", FIVE_HUNDRED_AND_TWELVE),
-    ] {
-        assert!(rt; gives(&rt, line, &[], Status::Done, text)?, "of {line:?}");
+fn what_is_generated_is_accepted_and_has_no_breach(rt: HostRuntime) {
+    let done = Status::Done;
+    assert!(rt; gives(&rt, "gen 18446744073709551615 3 plan", &[], done, PLAN));
+    assert!(rt; gives(&rt, "gen 18446744073709551615 3 script", &[], done, SCRIPT));
+    assert!(rt; gives(&rt, "gen 0 3 run", &[], done, THREE));
+    assert!(rt; gives(&rt, "gen 7 32 run", &[], done, THIRTY_TWO));
+    assert!(rt; gives(&rt, "gen 3 512 run", &[], done, FIVE_HUNDRED_AND_TWELVE));
+}
+
+/// What is reported of a play of these two texts.
+fn report_of(rt: &HostRuntime, plan: &[u8], script: &[u8]) -> Option<Vec<u8>> {
+    done(
+        rt,
+        "play p.toml s.csv 1",
+        &[("p.toml", plan), ("s.csv", script)],
+    )
+}
+
+#[test]
+fn a_generated_run_is_the_play_of_its_two_texts(rt: HostRuntime) {
+    let (Some(plan), Some(script)) = (
+        done(&rt, "gen 1 32 plan", &[]),
+        done(&rt, "gen 1 32 script", &[]),
+    ) else {
+        panic!(rt; "nothing is generated");
+    };
+    let (Some(played), Some(run)) = (
+        report_of(&rt, &plan, &script),
+        done(&rt, "gen 1 32 run", &[]),
+    ) else {
+        panic!(rt; "no report");
+    };
+    assert!(rt; run.as_slice() == played.as_slice());
+}
+
+#[test]
+fn a_generated_text_is_one_line_a_write(rt: HostRuntime) {
+    match run_with(&rt, "gen 1 3 script", &[], &[], &[2]) {
+        Ok((status, written)) => {
+            assert!(rt; status == Status::WriteFault);
+            assert!(rt; written.as_slice() == b"quanta,4000\n".as_slice());
+        }
+        Err(_) => panic!(rt; "out of memory"),
     }
-    Ok(())
-}
-
-#[test]
-fn a_generated_run_is_the_play_of_its_two_texts(rt: HostRuntime) -> Result<(), Fail> {
-    let (_, plan) = run_with(&rt, "gen 1 32 plan", &[], &[], &[])?;
-    let (_, script) = run_with(&rt, "gen 1 32 script", &[], &[], &[])?;
-    let files = [("p.toml", plan.as_slice()), ("s.csv", script.as_slice())];
-    let (played, report) = run_with(&rt, "play p.toml s.csv 1", &files, &[], &[])?;
-    let (status, text) = run_with(&rt, "gen 1 32 run", &[], &[], &[])?;
-    assert!(rt; played == Status::Done && status == Status::Done);
-    assert!(rt; text.as_slice() == report.as_slice());
-    Ok(())
-}
-
-#[test]
-fn a_generated_text_is_one_line_a_write(rt: HostRuntime) -> Result<(), Fail> {
-    let (status, written) = run_with(&rt, "gen 1 3 script", &[], &[], &[2])?;
-    assert!(rt; status == Status::WriteFault);
-    assert!(rt; written.as_slice() == b"quanta,4000\n".as_slice());
-    Ok(())
 }

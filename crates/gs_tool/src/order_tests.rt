@@ -1,6 +1,5 @@
 use crate::tests::gives;
 use gs_cli::Status;
-use std::test::Fail;
 
 const STEADY: &str = "nodes 2 quanta 30 wait 103125
 event 0 node 0 begun 10 stamp 100000 finished 21
@@ -14,20 +13,30 @@ finished 0
 ";
 
 #[test]
-fn an_order_is_its_events_its_breach_or_its_refusal(rt: HostRuntime) -> Result<(), Fail> {
-    let line = "order base:2 steady:30 10";
-    assert!(rt; gives(&rt, line, &[], Status::Done, STEADY)?);
-    let line = "order base:2 steady:9 10";
-    assert!(rt; gives(&rt, line, &[], Status::Done, NONE)?);
+fn an_order_is_its_events_its_breach_or_its_refusal(rt: HostRuntime) {
+    assert!(rt; gives(&rt, "order base:2 steady:30 10", &[], Status::Done, STEADY));
+    assert!(rt; gives(&rt, "order base:2 steady:9 10", &[], Status::Done, NONE));
     let lost = [("s.csv", b"quanta,1000\nloss,0,1,1,1000,1\n".as_slice())];
     let breach = "breach at quantum 413: stale 0 1\n";
-    let line = "order base:2 s.csv 100";
-    assert!(rt; gives(&rt, line, &lost, Status::Breach, breach)?);
-    let refused = "script refused: large\n";
+    assert!(rt; gives(&rt, "order base:2 s.csv 100", &lost, Status::Breach, breach));
     let line = "order base:2 steady:1048577 1048576";
-    assert!(rt; gives(&rt, line, &[], Status::InputRefused, refused)?);
-    let failed = "read failed: missing.csv\n";
+    assert!(rt;
+        gives(
+            &rt,
+            line,
+            &[],
+            Status::InputRefused,
+            "script refused: large\n"
+        )
+    );
     let line = "order base:x missing.csv 1";
-    assert!(rt; gives(&rt, line, &[], Status::ReadFault, failed)?);
-    Ok(())
+    assert!(rt;
+        gives(
+            &rt,
+            line,
+            &[],
+            Status::ReadFault,
+            "read failed: missing.csv\n"
+        )
+    );
 }

@@ -1,7 +1,7 @@
 use crate::tool::run_tool;
 use gs_cli::Status;
 use gs_io::{MemFiles, MemSink, PlainGate};
-use std::test::Fail;
+use std::alloc::{AllocError, Global};
 
 const USAGE: &str = "usage: gradsync plan, play, trace, audit, replay, gen or node\n";
 
@@ -36,6 +36,24 @@ best 1 406493
 /// What a run answered, and what it wrote.
 type Ran = (Status, Vec<u8>);
 
+/// The words of a line.
+fn words_of(alloc: Global, line: &str) -> Result<Vec<String>, AllocError> {
+    let mut words = Vec::new(alloc);
+    for word in line.split_whitespace() {
+        words.push(String::from_str(alloc, word)?)?;
+    }
+    Ok(words)
+}
+
+/// Files of these names that hold these bytes, with reads of these numbers failing.
+fn files_of(alloc: Global, files: &[(&str, &[u8])], reads: &[u64]) -> Result<MemFiles, AllocError> {
+    let mut held = Vec::new(alloc);
+    for (name, bytes) in files {
+        held.push((String::from_str(alloc, name)?, bytes.to_vec(alloc)?))?;
+    }
+    Ok(MemFiles::new(alloc, held, reads.to_vec(alloc)?))
+}
+
 /// Runs the words of a line over these files, with reads and writes of these numbers failing.
 pub(crate) fn run_with(
     rt: &HostRuntime,
@@ -43,135 +61,156 @@ pub(crate) fn run_with(
     files: &[(&str, &[u8])],
     reads: &[u64],
     writes: &[u64],
-) -> Result<Ran, Fail> {
+) -> Result<Ran, AllocError> {
     let alloc = rt.alloc();
-    let mut words = Vec::new(alloc);
-    for word in line.split_whitespace() {
-        words.push(String::from_str(alloc, word)?)?;
-    }
-    let mut held = Vec::new(alloc);
-    for (name, bytes) in files {
-        held.push((String::from_str(alloc, name)?, bytes.to_vec(alloc)?))?;
-    }
-    let mut files = MemFiles::new(alloc, held, reads.to_vec(alloc)?);
+    let words = words_of(alloc, line)?;
+    let mut files = files_of(alloc, files, reads)?;
     let mut out = MemSink::new(alloc, writes.to_vec(alloc)?);
     let status = run_tool(alloc, &words, &mut files, &mut out, &PlainGate::new(rt));
     Ok((status, out.bytes().to_vec(alloc)?))
 }
 
-/// Whether the words of a line over these files have this answer.
+/// Whether the words of a line over these files have this answer, with reads of these numbers failing.
+pub(crate) fn gives_with(
+    rt: &HostRuntime,
+    line: &str,
+    files: &[(&str, &[u8])],
+    reads: &[u64],
+    status: Status,
+    text: &str,
+) -> bool {
+    match run_with(rt, line, files, reads, &[]) {
+        Ok((answered, written)) => answered == status && written.as_slice() == text.as_bytes(),
+        Err(_) => false,
+    }
+}
+
+/// Whether they have it where all reads go well.
 pub(crate) fn gives(
     rt: &HostRuntime,
     line: &str,
     files: &[(&str, &[u8])],
     status: Status,
     text: &str,
-) -> Result<bool, Fail> {
-    let (answered, written) = run_with(rt, line, files, &[], &[])?;
-    Ok(answered == status && written.as_slice() == text.as_bytes())
+) -> bool {
+    gives_with(rt, line, files, &[], status, text)
 }
 
+/// What they write where their job is done.
+pub(crate) fn done(rt: &HostRuntime, line: &str, files: &[(&str, &[u8])]) -> Option<Vec<u8>> {
+    match run_with(rt, line, files, &[], &[]) {
+        Ok((Status::Done, written)) => Some(written),
+        _ => None,
+    }
+}
+
+/// Lines whose words are no command.
+const NO_COMMANDS: &str = "
+dance
+plan
+plan base:2 x
+play base:2 steady:10
+play base:2 steady:10 0
+play base:2 steady:10 65
+play base:2 steady:10 01
+node base:1 0 3
+stamp x
+replay base:2 4294967296 t
+gen 1 2 run
+gen 1 3 dance
+gen 18446744073709551616 3 plan
+settle base:2 steady:9 2305843009213693953
+slots base:2 steady:9 4294967296 1
+order base:2 steady:9 0
+order base:2 steady:9 1048577
+";
+
 #[test]
-fn words_that_are_no_command_have_the_usage(rt: HostRuntime) -> Result<(), Fail> {
-    for line in [
-        "",
-        "dance",
-        "plan",
-        "plan base:2 x",
-        "play base:2 steady:10",
-        "play base:2 steady:10 0",
-        "play base:2 steady:10 65",
-        "play base:2 steady:10 01",
-        "node base:1 0 3",
-        "stamp x",
-        "replay base:2 4294967296 t",
-        "gen 1 2 run",
-        "gen 1 3 dance",
-        "gen 18446744073709551616 3 plan",
-        "settle base:2 steady:9 2305843009213693953",
-        "slots base:2 steady:9 4294967296 1",
-        "order base:2 steady:9 0",
-        "order base:2 steady:9 1048577",
-    ] {
-        assert!(rt; gives(&rt, line, &[], Status::Usage, USAGE)?, "of {line:?}");
+fn words_that_are_no_command_have_the_usage(rt: HostRuntime) {
+    for line in NO_COMMANDS.lines() {
+        assert!(rt; gives(&rt, line, &[], Status::Usage, USAGE), "{line}");
     }
     assert_eq!(rt; Status::Usage.code(), 1);
-    Ok(())
 }
 
 #[test]
-fn commands_to_come_are_not_built(rt: HostRuntime) -> Result<(), Fail> {
-    for line in ["play base:2 steady:10 2", "play missing.toml s.csv 64"] {
-        assert!(rt;
-            gives(&rt, line, &[], Status::Unbuilt, "not built\n")?,
-            "of {line:?}"
-        );
+fn commands_to_come_are_not_built(rt: HostRuntime) {
+    let unbuilt = "not built\n";
+    assert!(rt;
+        gives(
+            &rt,
+            "play base:2 steady:10 2",
+            &[],
+            Status::Unbuilt,
+            unbuilt
+        )
+    );
+    assert!(rt;
+        gives(
+            &rt,
+            "play missing.toml s.csv 64",
+            &[],
+            Status::Unbuilt,
+            unbuilt
+        )
+    );
+}
+
+/// Whether the words of a case have this status and the line that stands behind its arrow.
+pub(crate) fn holds(rt: &HostRuntime, files: &[(&str, &[u8])], status: Status, case: &str) -> bool {
+    let Some((line, answer)) = case.split_once(" -> ") else {
+        return false;
+    };
+    match format!(in rt.alloc(); "{answer}\n") {
+        Ok(text) => gives(rt, line, files, status, text.as_str()),
+        Err(_) => false,
     }
-    Ok(())
 }
 
+/// Plans that are refused, and why.
+const REFUSED: &str = "plan bytes -> plan refused: toml
+plan empty -> plan refused: missing version
+plan three -> plan refused: range version
+plan kind -> plan refused: kind cluster
+plan base:x -> plan refused: number
+plan base: -> plan refused: number
+plan base:4294967296 -> plan refused: number
+plan base:0 -> plan refused: count
+plan base:513 -> plan refused: count
+migrate base:513 -> plan refused: count
+";
+
 #[test]
-fn a_plan_gives_its_bounds_or_what_is_wrong(rt: HostRuntime) -> Result<(), Fail> {
-    let most = vec![in rt.alloc(); b'['; 1_048_576]?;
-    let long = vec![in rt.alloc(); b'['; 1_048_577]?;
+fn a_plan_gives_its_bounds_or_what_is_wrong(rt: HostRuntime) {
     let files = [
         ("line", LINE.as_bytes()),
         ("bytes", b"version = ".as_slice()),
         ("empty", b"".as_slice()),
         ("three", b"version = 3\n".as_slice()),
         ("kind", b"version = 1\ncluster = true\n".as_slice()),
-        ("most", most.as_slice()),
-        ("long", long.as_slice()),
     ];
-    for (line, status, text) in [
-        ("plan line", Status::Done, LINE_TEXT),
-        ("plan base:33", Status::Done, LINE_TEXT),
-        ("plan bytes", Status::PlanRefused, "plan refused: toml\n"),
-        (
-            "plan empty",
-            Status::PlanRefused,
-            "plan refused: missing version\n",
-        ),
-        (
-            "plan three",
-            Status::PlanRefused,
-            "plan refused: range version\n",
-        ),
-        (
-            "plan kind",
-            Status::PlanRefused,
-            "plan refused: kind cluster\n",
-        ),
-        ("plan most", Status::PlanRefused, "plan refused: toml\n"),
-        ("plan long", Status::TooLong, "too long: long\n"),
-        ("plan missing", Status::ReadFault, "read failed: missing\n"),
-        ("plan base:x", Status::PlanRefused, "plan refused: number\n"),
-        ("plan base:", Status::PlanRefused, "plan refused: number\n"),
-        (
-            "plan base:4294967296",
-            Status::PlanRefused,
-            "plan refused: number\n",
-        ),
-        ("plan base:0", Status::PlanRefused, "plan refused: count\n"),
-        (
-            "plan base:513",
-            Status::PlanRefused,
-            "plan refused: count\n",
-        ),
-        (
-            "migrate missing",
-            Status::ReadFault,
-            "read failed: missing\n",
-        ),
-        (
-            "migrate base:513",
-            Status::PlanRefused,
-            "plan refused: count\n",
-        ),
-    ] {
-        assert!(rt; gives(&rt, line, &files, status, text)?, "of {line:?}");
+    assert!(rt; gives(&rt, "plan line", &files, Status::Done, LINE_TEXT));
+    assert!(rt; gives(&rt, "plan base:33", &files, Status::Done, LINE_TEXT));
+    for case in REFUSED.lines() {
+        assert!(rt; holds(&rt, &files, Status::PlanRefused, case), "{case}");
     }
-    Ok(())
+    let missing = "read failed: missing\n";
+    assert!(rt; gives(&rt, "plan missing", &files, Status::ReadFault, missing));
+    assert!(rt; gives(&rt, "migrate missing", &files, Status::ReadFault, missing));
+}
+
+/// Whether the plan file of so many brackets has this answer.
+fn brackets_give(rt: &HostRuntime, count: usize, status: Status, text: &str) -> bool {
+    match vec![in rt.alloc(); b'['; count] {
+        Ok(bytes) => gives(rt, "plan p", &[("p", bytes.as_slice())], status, text),
+        Err(_) => false,
+    }
+}
+
+#[test]
+fn a_plan_file_has_a_mebibyte_at_most(rt: HostRuntime) {
+    assert!(rt; brackets_give(&rt, 1_048_576, Status::PlanRefused, "plan refused: toml\n"));
+    assert!(rt; brackets_give(&rt, 1_048_577, Status::TooLong, "too long: p\n"));
 }
 
 const SPANS: &str = "version = 2
@@ -204,68 +243,65 @@ edge 0 1 delay 2 12 kappa 122529 best 0 203949
 edge 1 2 delay 2 2 kappa 22529 best 1 55257
 ";
 
-#[test]
-fn a_span_gives_its_edge_numbers_of_its_own(rt: HostRuntime) -> Result<(), Fail> {
-    for (spans, status, text) in [
-        ("[[1, 2, 2, 2]]", Status::Done, SPANS_TEXT),
-        (
-            "[[1, 2, 2, 2, 22528]]",
-            Status::PlanRefused,
-            "plan refused: kappa\n",
-        ),
-        (
-            "[[0, 2, 2, 2]]",
-            Status::PlanRefused,
-            "plan refused: span 0\n",
-        ),
-        (
-            "[[1, 2, 2]]",
-            Status::PlanRefused,
-            "plan refused: kind spans\n",
-        ),
-    ] {
-        let plan = format!(in rt.alloc(); "{SPANS}spans = {spans}\n")?;
-        let files = [("spans", plan.as_bytes())];
-        assert!(rt;
-            gives(&rt, "plan spans", &files, status, text)?,
-            "of {spans}"
-        );
+/// Whether the plan with these spans has this answer.
+fn spans_give(rt: &HostRuntime, spans: &str, status: Status, text: &str) -> bool {
+    match format!(in rt.alloc(); "{SPANS}spans = {spans}\n") {
+        Ok(plan) => gives(rt, "plan p", &[("p", plan.as_bytes())], status, text),
+        Err(_) => false,
     }
-    Ok(())
 }
 
 #[test]
-fn a_migrated_plan_has_its_bounds_and_a_line_an_edge(rt: HostRuntime) -> Result<(), Fail> {
-    let files = [("line", LINE.as_bytes())];
-    let (status, migrated) = run_with(&rt, "migrate line", &files, &[], &[])?;
-    assert_eq!(rt; status, Status::Done);
-    let files = [("two", migrated.as_slice())];
-    let (status, text) = run_with(&rt, "plan two", &files, &[], &[])?;
-    assert_eq!(rt; status, Status::Done);
+fn a_span_gives_its_edge_numbers_of_its_own(rt: HostRuntime) {
+    let refused = Status::PlanRefused;
+    assert!(rt; spans_give(&rt, "[[1, 2, 2, 2]]", Status::Done, SPANS_TEXT));
+    assert!(rt;
+        spans_give(
+            &rt,
+            "[[1, 2, 2, 2, 22528]]",
+            refused,
+            "plan refused: kappa\n"
+        )
+    );
+    assert!(rt; spans_give(&rt, "[[0, 2, 2, 2]]", refused, "plan refused: span 0\n"));
+    assert!(rt; spans_give(&rt, "[[1, 2, 2]]", refused, "plan refused: kind spans\n"));
+}
+
+/// How many lines end in these bytes.
+fn lines_in(bytes: &[u8]) -> usize {
+    bytes.iter().filter(|byte| **byte == b'\n').count()
+}
+
+#[test]
+fn a_migrated_plan_has_its_bounds_and_a_line_an_edge(rt: HostRuntime) {
+    let Some(migrated) = done(&rt, "migrate line", &[("line", LINE.as_bytes())]) else {
+        panic!(rt; "the plan is not migrated");
+    };
+    let Some(text) = done(&rt, "plan two", &[("two", migrated.as_slice())]) else {
+        panic!(rt; "the migrated plan is refused");
+    };
     assert!(rt; text.starts_with(LINE_TEXT.as_bytes()));
     assert!(rt; text.ends_with(b"edge 31 32 delay 2 12 kappa 122529 best 1 406493\n"));
-    let lines = text.iter().filter(|byte| **byte == b'\n').count();
-    assert_eq!(rt; lines, 11 + 32);
-    Ok(())
+    assert_eq!(rt; lines_in(&text), 11 + 32);
+}
+
+/// Whether a run whose write of this number fails has this status, and wrote so many lines.
+fn writes(rt: &HostRuntime, line: &str, fails: u64, status: Status, lines: usize) -> bool {
+    match run_with(rt, line, &[], &[], &[fails]) {
+        Ok((answered, written)) => answered == status && lines_in(&written) == lines,
+        Err(_) => false,
+    }
 }
 
 /// Of a text the sink has the lines before the write that fails; a file is one write.
 #[test]
-fn a_text_is_one_line_a_write_and_a_file_one_write(rt: HostRuntime) -> Result<(), Fail> {
-    for (line, call, status, lines) in [
-        ("plan base:33", 1, Status::WriteFault, 0),
-        ("plan base:33", 2, Status::WriteFault, 1),
-        ("plan base:33", 11, Status::WriteFault, 10),
-        ("plan base:33", 12, Status::Done, 11),
-        ("dance", 1, Status::WriteFault, 0),
-        ("dance", 2, Status::Usage, 1),
-        ("migrate base:33", 1, Status::WriteFault, 0),
-        ("migrate base:33", 2, Status::Done, 15),
-    ] {
-        let (answered, written) = run_with(&rt, line, &[], &[], &[call])?;
-        assert_eq!(rt; answered, status, "of {line:?} at write {call}");
-        let ends = written.iter().filter(|byte| **byte == b'\n').count();
-        assert_eq!(rt; ends, lines, "of {line:?} at write {call}");
-    }
-    Ok(())
+fn a_text_is_one_line_a_write_and_a_file_one_write(rt: HostRuntime) {
+    assert!(rt; writes(&rt, "plan base:33", 1, Status::WriteFault, 0));
+    assert!(rt; writes(&rt, "plan base:33", 2, Status::WriteFault, 1));
+    assert!(rt; writes(&rt, "plan base:33", 11, Status::WriteFault, 10));
+    assert!(rt; writes(&rt, "plan base:33", 12, Status::Done, 11));
+    assert!(rt; writes(&rt, "dance", 1, Status::WriteFault, 0));
+    assert!(rt; writes(&rt, "dance", 2, Status::Usage, 1));
+    assert!(rt; writes(&rt, "migrate base:33", 1, Status::WriteFault, 0));
+    assert!(rt; writes(&rt, "migrate base:33", 2, Status::Done, 15));
 }

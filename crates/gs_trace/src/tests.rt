@@ -1,6 +1,9 @@
+ghost use Rattle.std.specs.Prelude.{◌≡◌};
+
 use crate::{
-    Next, NodeStart, Readings, TraceFault, WorldStart, faults_are_first, node_event, node_head,
-    read_node, read_world, scan_node, scan_world, traces_are_read_back, world_event, world_head,
+    Next, NodeStart, Readings, TraceFault, WorldScan, WorldStart, faults_are_first, node_event,
+    node_head, read_node, read_world, scan_node, scan_world, traces_are_read_back, world_event,
+    world_head,
 };
 use gs_beacon::{Beacon, LENGTH};
 use gs_core::{Event, Incs, NodeEvent};
@@ -8,12 +11,6 @@ use gs_plan::{Plan, check};
 use gs_planfile::base;
 use gs_units::NodeParams;
 use std::alloc::{AllocError, Global};
-use std::test::Fail;
-
-/// The plan of two nodes.
-fn pair(alloc: Global) -> Result<Plan, Fail> {
-    Ok(check(alloc, &base(alloc, 2)).map_err(|_| "the plan is refused")?)
-}
 
 /// The head of a trace of a world of two nodes, from readings 0 and 5 and a clock of 7.
 const HEAD: &[u8] =
@@ -30,25 +27,28 @@ fn behind(alloc: Global, head: &[u8], events: &[u8]) -> Result<Vec<u8>, AllocErr
     Ok(bytes)
 }
 
-/// A quantum of these increments.
-fn quantum(alloc: Global, incs: [u32; 2]) -> Result<Event, AllocError> {
-    Ok(Event::Quantum(Incs::from_vec(Vec::from_array(alloc, incs)?)))
-}
-
-#[test]
-fn writes_the_trace_of_a_world(rt: HostRuntime) -> Result<(), Fail> {
-    let alloc = rt.alloc();
-    let plan = pair(alloc)?;
+/// Whether this is the head that is written of two nodes.
+fn writes_head(alloc: Global, plan: &Plan) -> bool {
     if plan.topo().nodes() != 2 {
-        return Err("not two nodes")?;
+        return false;
     }
+    let Ok(readings) = Vec::from_array(alloc, [0, 5]) else {
+        return false;
+    };
     let start = WorldStart {
         l0: 7,
-        hw: Readings::from_vec(vec![in alloc; 0, 5]?),
+        hw: Readings::from_vec(readings),
     };
-    let mut bytes = world_head(alloc, &plan, &start)?;
-    assert_eq!(rt; bytes.as_slice(), HEAD);
-    bytes.extend_from_slice(&world_event(alloc, &quantum(alloc, [10_000, 10_001])?)?)?;
+    match world_head(alloc, plan, &start) {
+        Ok(head) => head.as_slice() == HEAD,
+        Err(_) => false,
+    }
+}
+
+/// What is written of a quantum, a tick and a delivery.
+fn written_events(alloc: Global) -> Result<Vec<u8>, AllocError> {
+    let incs = Incs::from_vec(Vec::from_array(alloc, [10_000, 10_001])?);
+    let mut bytes = world_event(alloc, &Event::Quantum(incs))?;
     bytes.extend_from_slice(&world_event(alloc, &Event::Tick(1))?)?;
     let delivery = Event::Deliver {
         from: 0,
@@ -56,35 +56,42 @@ fn writes_the_trace_of_a_world(rt: HostRuntime) -> Result<(), Fail> {
         seq: 3,
     };
     bytes.extend_from_slice(&world_event(alloc, &delivery)?)?;
-    assert_eq!(rt; bytes, behind(alloc, HEAD, EVENTS)?);
-    Ok(())
+    Ok(bytes)
 }
 
-#[test]
-fn reads_the_trace_of_a_world(rt: HostRuntime) -> Result<(), Fail> {
-    let alloc = rt.alloc();
-    let plan = pair(alloc)?;
-    if plan.topo().nodes() != 2 {
-        return Err("not two nodes")?;
-    }
-    let bytes = behind(alloc, HEAD, EVENTS)?;
-    let (start, mut scan) = scan_world(alloc, &bytes, &plan).map_err(|_| "refused")?;
-    assert!(rt; start.l0 == 7 && start.hw.as_slice() == [0, 5].as_slice());
-    assert_eq!(rt; scan.bytes_left(), 31);
+/// Whether the scan of a world of two nodes gives the events of `EVENTS`, and no more.
+fn gives_events(scan: &mut WorldScan) -> bool
+    requires { scan.old.nodes ≡ 2 }
+{
     let mut incs = [1, 2];
-    assert_eq!(rt; scan.next(&mut incs), Some(Next::Quantum));
-    assert_eq!(rt; incs, [10_000, 10_001]);
-    assert_eq!(rt; scan.next(&mut incs), Some(Next::Tick(1)));
+    let first = scan.next(&mut incs);
+    let of_quantum = incs;
+    let second = scan.next(&mut incs);
+    let third = scan.next(&mut incs);
+    let ends = scan.next(&mut incs).is_none();
     let delivery = Next::Deliver {
         from: 0,
         to: 1,
         seq: 3,
     };
-    assert_eq!(rt; scan.next(&mut incs), Some(delivery));
-    assert_eq!(rt; scan.next(&mut incs), None);
-    assert_eq!(rt; incs, [10_000, 10_001]);
-    assert!(rt; has_events(alloc, &plan, &bytes, 3));
-    Ok(())
+    first == Some(Next::Quantum)
+        && second == Some(Next::Tick(1))
+        && third == Some(delivery)
+        && ends
+        && of_quantum == [10_000, 10_001]
+        && incs == [10_000, 10_001]
+}
+
+/// Whether these bytes are scanned as the trace of a world of two nodes.
+fn is_scanned(alloc: Global, plan: &Plan, bytes: &[u8]) -> bool {
+    if plan.topo().nodes() != 2 {
+        return false;
+    }
+    let Ok((start, mut scan)) = scan_world(alloc, bytes, plan) else {
+        return false;
+    };
+    let has_start = start.l0 == 7 && start.hw.as_slice() == [0, 5].as_slice();
+    has_start && scan.bytes_left() == 31 && gives_events(&mut scan)
 }
 
 /// Whether bytes are the trace of a world with so many events.
@@ -95,7 +102,25 @@ fn has_events(alloc: Global, plan: &Plan, bytes: &[u8], count: usize) -> bool {
     }
 }
 
-/// Whether the first `long` of them are.
+#[test]
+fn writes_and_reads_the_trace_of_a_world(rt: HostRuntime) {
+    let alloc = rt.alloc();
+    let Ok(plan) = check(alloc, &base(alloc, 2)) else {
+        panic!(rt; "the plan is refused");
+    };
+    let Ok(bytes) = behind(alloc, HEAD, EVENTS) else {
+        panic!(rt; "out of memory");
+    };
+    assert!(rt; writes_head(alloc, &plan));
+    match written_events(alloc) {
+        Ok(events) => assert!(rt; events.as_slice() == EVENTS),
+        Err(_) => panic!(rt; "out of memory"),
+    }
+    assert!(rt; is_scanned(alloc, &plan, &bytes));
+    assert!(rt; has_events(alloc, &plan, &bytes, 3));
+}
+
+/// Whether the first `long` bytes are the trace of a world with so many events.
 fn front_has_events(alloc: Global, plan: &Plan, bytes: &[u8], long: usize, count: usize) -> bool {
     match bytes.get(..long) {
         Some(front) => has_events(alloc, plan, front, count),
@@ -103,7 +128,7 @@ fn front_has_events(alloc: Global, plan: &Plan, bytes: &[u8], long: usize, count
     }
 }
 
-/// Whether they are refused so.
+/// Whether bytes are refused so.
 fn is_refused(alloc: Global, plan: &Plan, bytes: &[u8], why: TraceFault) -> bool {
     match read_world(alloc, bytes, plan) {
         Ok(_) => false,
@@ -130,10 +155,14 @@ fn are_refused(
 }
 
 #[test]
-fn every_front_of_a_trace_is_cut_or_whole(rt: HostRuntime) -> Result<(), Fail> {
+fn every_front_of_a_trace_is_cut_or_whole(rt: HostRuntime) {
     let alloc = rt.alloc();
-    let plan = pair(alloc)?;
-    let bytes = behind(alloc, HEAD, EVENTS)?;
+    let Ok(plan) = check(alloc, &base(alloc, 2)) else {
+        panic!(rt; "the plan is refused");
+    };
+    let Ok(bytes) = behind(alloc, HEAD, EVENTS) else {
+        panic!(rt; "out of memory");
+    };
     assert!(rt; are_refused(alloc, &plan, &bytes, 0, 40, TraceFault::Header));
     assert!(rt; front_has_events(alloc, &plan, &bytes, 40, 0));
     assert!(rt; are_refused(alloc, &plan, &bytes, 41, 49, TraceFault::Cut(40)));
@@ -142,123 +171,60 @@ fn every_front_of_a_trace_is_cut_or_whole(rt: HostRuntime) -> Result<(), Fail> {
     assert!(rt; front_has_events(alloc, &plan, &bytes, 54, 2));
     assert!(rt; are_refused(alloc, &plan, &bytes, 55, 71, TraceFault::Cut(54)));
     assert!(rt; front_has_events(alloc, &plan, &bytes, 71, 3));
-    Ok(())
 }
 
-/// These bytes with another at a place.
-fn changed(alloc: Global, bytes: &[u8], place: usize, byte: u8) -> Result<Vec<u8>, AllocError> {
-    let mut others = bytes.to_vec(alloc)?;
-    if let Some(old) = others.get_mut(place) {
+/// These events behind this head, with another byte at a place.
+fn changed(
+    alloc: Global,
+    head: &[u8],
+    events: &[u8],
+    place: usize,
+    byte: u8,
+) -> Result<Vec<u8>, AllocError> {
+    let mut bytes = behind(alloc, head, events)?;
+    if let Some(old) = bytes.get_mut(place) {
         *old = byte;
     }
-    Ok(others)
+    Ok(bytes)
+}
+
+/// Whether the trace of a world with another byte at a place is refused so.
+fn refuses(alloc: Global, plan: &Plan, place: usize, byte: u8, why: TraceFault) -> bool {
+    match changed(alloc, HEAD, EVENTS, place, byte) {
+        Ok(bytes) => is_refused(alloc, plan, &bytes, why),
+        Err(_) => false,
+    }
+}
+
+/// Whether it is taken.
+fn takes(alloc: Global, plan: &Plan, place: usize, byte: u8) -> bool {
+    match changed(alloc, HEAD, EVENTS, place, byte) {
+        Ok(bytes) => has_events(alloc, plan, &bytes, 3),
+        Err(_) => false,
+    }
 }
 
 #[test]
-fn the_first_fault_of_a_world_is_named(rt: HostRuntime) -> Result<(), Fail> {
+fn the_first_fault_of_a_world_is_named(rt: HostRuntime) {
     let alloc = rt.alloc();
-    let plan = pair(alloc)?;
-    let bytes = behind(alloc, HEAD, EVENTS)?;
-    assert!(rt;
-        is_refused(
-            alloc,
-            &plan,
-            &changed(alloc, &bytes, 0, 72)?,
-            TraceFault::Header
-        )
-    );
-    assert!(rt;
-        is_refused(
-            alloc,
-            &plan,
-            &changed(alloc, &bytes, 5, 2)?,
-            TraceFault::Header
-        )
-    );
-    assert!(rt;
-        is_refused(
-            alloc,
-            &plan,
-            &changed(alloc, &bytes, 7, 1)?,
-            TraceFault::Header
-        )
-    );
-    assert!(rt;
-        is_refused(
-            alloc,
-            &plan,
-            &changed(alloc, &bytes, 11, 8)?,
-            TraceFault::Plan
-        )
-    );
-    assert!(rt;
-        is_refused(
-            alloc,
-            &plan,
-            &changed(alloc, &bytes, 15, 3)?,
-            TraceFault::Plan
-        )
-    );
-    assert!(rt; has_events(alloc, &plan, &changed(alloc, &bytes, 16, 31)?, 3));
-    assert!(rt;
-        is_refused(
-            alloc,
-            &plan,
-            &changed(alloc, &bytes, 16, 32)?,
-            TraceFault::Header
-        )
-    );
-    assert!(rt;
-        is_refused(
-            alloc,
-            &plan,
-            &changed(alloc, &bytes, 32, 33)?,
-            TraceFault::Header
-        )
-    );
-    assert!(rt;
-        is_refused(
-            alloc,
-            &plan,
-            &changed(alloc, &bytes, 40, 0)?,
-            TraceFault::Kind(40)
-        )
-    );
-    assert!(rt;
-        is_refused(
-            alloc,
-            &plan,
-            &changed(alloc, &bytes, 40, 4)?,
-            TraceFault::Kind(40)
-        )
-    );
-    assert!(rt; has_events(alloc, &plan, &changed(alloc, &bytes, 48, 255)?, 3));
+    let Ok(plan) = check(alloc, &base(alloc, 2)) else {
+        panic!(rt; "the plan is refused");
+    };
+    assert!(rt; refuses(alloc, &plan, 0, 72, TraceFault::Header));
+    assert!(rt; refuses(alloc, &plan, 5, 2, TraceFault::Header));
+    assert!(rt; refuses(alloc, &plan, 7, 1, TraceFault::Header));
+    assert!(rt; refuses(alloc, &plan, 11, 8, TraceFault::Plan));
+    assert!(rt; refuses(alloc, &plan, 15, 3, TraceFault::Plan));
+    assert!(rt; takes(alloc, &plan, 16, 31));
+    assert!(rt; refuses(alloc, &plan, 16, 32, TraceFault::Header));
+    assert!(rt; refuses(alloc, &plan, 32, 33, TraceFault::Header));
+    assert!(rt; refuses(alloc, &plan, 40, 0, TraceFault::Kind(40)));
+    assert!(rt; refuses(alloc, &plan, 40, 4, TraceFault::Kind(40)));
+    assert!(rt; takes(alloc, &plan, 48, 255));
     // The 22 bytes from 49 on as a delivery leave five that begin with 0, as a quantum 13 that do.
-    assert!(rt;
-        is_refused(
-            alloc,
-            &plan,
-            &changed(alloc, &bytes, 49, 3)?,
-            TraceFault::Kind(66)
-        )
-    );
-    assert!(rt;
-        is_refused(
-            alloc,
-            &plan,
-            &changed(alloc, &bytes, 49, 1)?,
-            TraceFault::Kind(58)
-        )
-    );
-    assert!(rt;
-        is_refused(
-            alloc,
-            &plan,
-            &changed(alloc, &bytes, 54, 2)?,
-            TraceFault::Kind(59)
-        )
-    );
-    Ok(())
+    assert!(rt; refuses(alloc, &plan, 49, 3, TraceFault::Kind(66)));
+    assert!(rt; refuses(alloc, &plan, 49, 1, TraceFault::Kind(58)));
+    assert!(rt; refuses(alloc, &plan, 54, 2, TraceFault::Kind(59)));
 }
 
 /// 412 quanta of two nodes with eight ticks and four deliveries, and then one quantum more, in bytes.
@@ -275,24 +241,26 @@ fn long_trace(alloc: Global) -> Result<Vec<u8>, AllocError> {
 }
 
 #[test]
-fn a_trace_of_four_thousand_bytes_is_cut_at_its_last_event(rt: HostRuntime) -> Result<(), Fail> {
+fn a_trace_of_four_thousand_bytes_is_cut_at_its_last_event(rt: HostRuntime) {
     let alloc = rt.alloc();
-    let plan = pair(alloc)?;
-    let bytes = long_trace(alloc)?;
+    let Ok(plan) = check(alloc, &base(alloc, 2)) else {
+        panic!(rt; "the plan is refused");
+    };
+    let Ok(bytes) = long_trace(alloc) else {
+        panic!(rt; "out of memory");
+    };
     assert_eq!(rt; bytes.len(), 3865);
     assert!(rt; has_events(alloc, &plan, &bytes, 425));
     assert!(rt; front_has_events(alloc, &plan, &bytes, 3856, 424));
     assert!(rt; are_refused(alloc, &plan, &bytes, 3857, 3865, TraceFault::Cut(3856)));
-    Ok(())
 }
 
-/// Node 0 of the plan of two nodes.
-fn node(alloc: Global) -> Result<NodeParams, Fail> {
-    let plan = pair(alloc)?;
+/// Node 0 of a plan.
+fn node(alloc: Global, plan: &Plan) -> Option<NodeParams> {
     if plan.topo().nodes() != 2 {
-        return Err("not two nodes")?;
+        return None;
     }
-    Ok(plan.node(alloc, 0)?)
+    plan.node(alloc, 0).ok()
 }
 
 /// The head of the trace of node 0 from a clock of 1 and a reading of 2, and a tick at 258.
@@ -303,37 +271,72 @@ const TICKED: &[u8] =
 const HEARD: &[u8] =
     b"\x02\0\0\0\0\0\0\x01\x03GCS1\0\0\0\x07\0\0\0\x01\0\0\0\0\0\0\0\0\0\0\0\x01\0\0\0\0\0\0\0\x05\0\0\0\0\0\0\0\x06";
 
-#[test]
-fn writes_and_reads_the_trace_of_a_node(rt: HostRuntime) -> Result<(), Fail> {
-    let alloc = rt.alloc();
-    let params = node(alloc)?;
-    let start = NodeStart { l0: 1, hw: 2 };
-    let tick = NodeEvent::Tick { hw: 258 };
-    let beacon = Beacon {
+const START: NodeStart = NodeStart { l0: 1, hw: 2 };
+
+const TICK: NodeEvent = NodeEvent::Tick { hw: 258 };
+
+const DELIVERY: NodeEvent = NodeEvent::Deliver {
+    hw: 259,
+    beacon: Beacon {
         cluster: 7,
         sender: 1,
         seq: 1,
         l: 5,
         m: 6,
+    },
+};
+
+/// Whether a node and its events are written so.
+fn writes_node(alloc: Global, params: &NodeParams) -> bool {
+    let head = node_head(params, &START);
+    let (Ok(tick), Ok(delivery)) = (node_event(alloc, &TICK), node_event(alloc, &DELIVERY)) else {
+        return false;
     };
-    let heard = NodeEvent::Deliver { hw: 259, beacon };
-    let ticked = behind(
-        alloc,
-        &node_head(&params, &start),
-        &node_event(alloc, &tick)?,
-    )?;
-    assert_eq!(rt; ticked.as_slice(), TICKED);
-    assert_eq!(rt; node_event(alloc, &heard)?.as_slice(), HEARD);
-    let bytes = behind(alloc, TICKED, HEARD)?;
-    let (read, mut scan) = scan_node(&bytes, &params).map_err(|_| "refused")?;
-    assert_eq!(rt; read, start);
-    assert_eq!(rt; scan.bytes_left(), 9 + 9 + LENGTH);
-    assert_eq!(rt; scan.next(), Some(tick));
-    assert_eq!(rt; scan.next(), Some(heard));
-    assert_eq!(rt; scan.next(), None);
-    let (again, events) = read_node(alloc, &bytes, &params).map_err(|_| "refused")?;
-    assert!(rt; again == start && events.as_slice() == [tick, heard].as_slice());
-    Ok(())
+    match behind(alloc, &head, &tick) {
+        Ok(ticked) => ticked.as_slice() == TICKED && delivery.as_slice() == HEARD,
+        Err(_) => false,
+    }
+}
+
+/// Whether they are scanned so.
+fn is_node_scanned(params: &NodeParams, bytes: &[u8]) -> bool {
+    let Ok((start, mut scan)) = scan_node(bytes, params) else {
+        return false;
+    };
+    let left = scan.bytes_left();
+    let first = scan.next();
+    let second = scan.next();
+    let ends = scan.next().is_none();
+    start == START
+        && left == 9 + 9 + LENGTH
+        && first == Some(TICK)
+        && second == Some(DELIVERY)
+        && ends
+}
+
+/// Whether they are read so.
+fn is_node_read(alloc: Global, params: &NodeParams, bytes: &[u8]) -> bool {
+    match read_node(alloc, bytes, params) {
+        Ok((start, events)) => start == START && events.as_slice() == [TICK, DELIVERY].as_slice(),
+        Err(_) => false,
+    }
+}
+
+#[test]
+fn writes_and_reads_the_trace_of_a_node(rt: HostRuntime) {
+    let alloc = rt.alloc();
+    let Ok(plan) = check(alloc, &base(alloc, 2)) else {
+        panic!(rt; "the plan is refused");
+    };
+    let Some(params) = node(alloc, &plan) else {
+        panic!(rt; "no node");
+    };
+    let Ok(bytes) = behind(alloc, TICKED, HEARD) else {
+        panic!(rt; "out of memory");
+    };
+    assert!(rt; writes_node(alloc, &params));
+    assert!(rt; is_node_scanned(&params, &bytes));
+    assert!(rt; is_node_read(alloc, &params, &bytes));
 }
 
 /// Whether bytes are refused so as the trace of a node.
@@ -344,72 +347,65 @@ fn node_refuses(params: &NodeParams, bytes: &[u8], why: TraceFault) -> bool {
     }
 }
 
-/// Whether the first `long` of them are.
-fn node_refuses_front(params: &NodeParams, bytes: &[u8], long: usize, why: TraceFault) -> bool {
+/// Whether the first `long` of the trace of a node are.
+fn node_refuses_front(alloc: Global, params: &NodeParams, long: usize, why: TraceFault) -> bool {
+    let Ok(bytes) = behind(alloc, TICKED, HEARD) else {
+        return false;
+    };
     match bytes.get(..long) {
         Some(front) => node_refuses(params, front, why),
         None => false,
     }
 }
 
-#[test]
-fn the_first_fault_of_a_node_is_named(rt: HostRuntime) -> Result<(), Fail> {
-    let alloc = rt.alloc();
-    let params = node(alloc)?;
-    let bytes = behind(alloc, TICKED, HEARD)?;
-    assert!(rt; node_refuses_front(&params, &bytes, 31, TraceFault::Header));
-    assert!(rt; node_refuses_front(&params, &bytes, 40, TraceFault::Cut(32)));
-    assert!(rt; node_refuses_front(&params, &bytes, 89, TraceFault::Cut(41)));
-    assert!(rt; node_refuses(&params, &changed(alloc, &bytes, 3, 87)?, TraceFault::Header));
-    assert!(rt; node_refuses(&params, &changed(alloc, &bytes, 15, 1)?, TraceFault::Plan));
-    assert!(rt;
-        node_refuses(
-            &params,
-            &changed(alloc, &bytes, 16, 64)?,
-            TraceFault::Header
-        )
-    );
-    assert!(rt;
-        node_refuses(
-            &params,
-            &changed(alloc, &bytes, 41, 3)?,
-            TraceFault::Kind(41)
-        )
-    );
-    assert!(rt;
-        node_refuses(
-            &params,
-            &changed(alloc, &bytes, 89, 4)?,
-            TraceFault::Beacon(41)
-        )
-    );
-    assert!(rt;
-        node_refuses(
-            &params,
-            &changed(alloc, &bytes, 73, 0)?,
-            TraceFault::Beacon(41)
-        )
-    );
-    Ok(())
+/// Whether it is with another byte at a place.
+fn node_refuses_byte(
+    alloc: Global,
+    params: &NodeParams,
+    place: usize,
+    byte: u8,
+    why: TraceFault,
+) -> bool {
+    match changed(alloc, TICKED, HEARD, place, byte) {
+        Ok(bytes) => node_refuses(params, &bytes, why),
+        Err(_) => false,
+    }
 }
 
 #[test]
-fn faults_have_words(rt: HostRuntime) -> Result<(), Fail> {
+fn the_first_fault_of_a_node_is_named(rt: HostRuntime) {
     let alloc = rt.alloc();
-    assert_eq!(rt; TraceFault::Plan.to_string(alloc)?.as_str(), "plan");
-    assert_eq!(rt;
-        TraceFault::Cut(3856).to_string(alloc)?.as_str(),
-        "cut 3856"
-    );
-    assert_eq!(rt;
-        TraceFault::Beacon(41).to_string(alloc)?.as_str(),
-        "beacon 41"
-    );
-    Ok(())
+    let Ok(plan) = check(alloc, &base(alloc, 2)) else {
+        panic!(rt; "the plan is refused");
+    };
+    let Some(params) = node(alloc, &plan) else {
+        panic!(rt; "no node");
+    };
+    assert!(rt; node_refuses_front(alloc, &params, 31, TraceFault::Header));
+    assert!(rt; node_refuses_front(alloc, &params, 40, TraceFault::Cut(32)));
+    assert!(rt; node_refuses_front(alloc, &params, 89, TraceFault::Cut(41)));
+    assert!(rt; node_refuses_byte(alloc, &params, 3, 87, TraceFault::Header));
+    assert!(rt; node_refuses_byte(alloc, &params, 15, 1, TraceFault::Plan));
+    assert!(rt; node_refuses_byte(alloc, &params, 16, 64, TraceFault::Header));
+    assert!(rt; node_refuses_byte(alloc, &params, 41, 3, TraceFault::Kind(41)));
+    assert!(rt; node_refuses_byte(alloc, &params, 89, 4, TraceFault::Beacon(41)));
+    assert!(rt; node_refuses_byte(alloc, &params, 73, 0, TraceFault::Beacon(41)));
+}
+
+/// Whether a fault is told in these words.
+fn has_words(alloc: Global, fault: TraceFault, words: &str) -> bool {
+    match fault.to_string(alloc) {
+        Ok(told) => told.as_str() == words,
+        Err(_) => false,
+    }
 }
 
 #[test]
-fn laws_cost_nothing() {
+fn faults_have_words(rt: HostRuntime) {
+    let alloc = rt.alloc();
+    assert!(rt; has_words(alloc, TraceFault::Plan, "plan"));
+    assert!(rt; has_words(alloc, TraceFault::Cut(3856), "cut 3856"));
+    assert!(rt; has_words(alloc, TraceFault::Beacon(41), "beacon 41"));
     traces_are_read_back();
     faults_are_first();
 }
