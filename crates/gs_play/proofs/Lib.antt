@@ -1,3 +1,9 @@
-pub mod OneEvent
-pub mod Onward
 pub mod Keeping
+pub mod Windows
+pub mod Pushed
+pub mod Places
+pub mod Giving
+pub mod FromOne
+pub mod Gathered
+pub mod Counted
+pub mod OneWindow

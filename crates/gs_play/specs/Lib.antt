@@ -1,5 +1,7 @@
 pub mod Played
 pub mod Scripts
 pub mod Headline
-pub mod UnderWay
-pub mod Running
+pub mod Windows
+pub mod Pieces
+pub mod Totals
+pub mod Player

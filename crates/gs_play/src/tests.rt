@@ -1,22 +1,44 @@
+ghost use Rattle.std.specs.Prelude.{◌≤◌};
+
 use crate::{PlayStop, play, scripts_keep_bounds};
-use gs_gate::PlainGate;
+use gs_gate::{Gate, PlainGate};
+use gs_gates::{CountGate, Rendezvous};
 use gs_level::{Peak, Report};
 use gs_plan::{Plan, check};
 use gs_planfile::{PlanText, Shape, base};
 use gs_script::read_script;
 use std::alloc::Global;
 use std::test::Fail;
+use std::thread::Threads;
+use std::time::Clock;
 
 /// A plan of this text.
 fn planned(alloc: Global, text: &PlanText) -> Result<Plan, Fail> {
     Ok(check(alloc, text).map_err(|_| "the plan is refused")?)
 }
 
-/// What a play of these records answers.
-fn played(rt: &HostRuntime, plan: &Plan, records: &str) -> Result<Result<Report, PlayStop>, Fail> {
+/// What a play of these records by so many workers answers.
+fn played_by<G: Gate>(
+    rt: &(impl AllocGlobal + Threads + Sync),
+    plan: &Plan,
+    records: &str,
+    workers: u32,
+    gate: &G,
+) -> Result<Result<Report, PlayStop>, Fail>
+    requires { (1 ≤ workers) × (workers ≤ 64) }
+{
     let alloc = rt.alloc();
     let script = read_script(alloc, records.as_bytes(), plan).map_err(|_| "refused")?;
-    Ok(play(alloc, plan, &script, 1, &PlainGate::new(rt)))
+    Ok(play(rt, alloc, plan, &script, workers, gate))
+}
+
+/// What a play by two workers answers.
+fn played(
+    rt: &(impl AllocGlobal + Clock + Threads + Sync),
+    plan: &Plan,
+    records: &str,
+) -> Result<Result<Report, PlayStop>, Fail> {
+    played_by(rt, plan, records, 2, &PlainGate::new(rt))
 }
 
 /// The numbers of a report: quanta, the greatest skews and their times, and what was played in fast mode.
@@ -163,6 +185,28 @@ fn other_shapes_are_played(rt: HostRuntime) -> Result<(), Fail> {
         "quanta 100 global 100 at 100 near 100 at 100 fast 0"
     );
     assert_eq!(rt; report.near_edge, Some((0, 1)));
+    Ok(())
+}
+
+#[test]
+fn two_workers_run_at_the_same_time(rt: HostRuntime) -> Result<(), Fail> {
+    let alloc = rt.alloc();
+    let mut text = base(alloc, 12);
+    text.shape = Shape::Ring(12);
+    let ring = planned(alloc, &text)?;
+    let gate = Rendezvous::new();
+    let report = played_by(&rt, &ring, "quanta,2000\ndrift,0,1,2000,10001", 2, &gate)?;
+    assert!(rt; report.is_ok() && gate.met());
+    Ok(())
+}
+
+#[test]
+fn a_piece_is_entered_once_a_window(rt: HostRuntime) -> Result<(), Fail> {
+    let plan = planned(rt.alloc(), &base(rt.alloc(), 2))?;
+    let gate = CountGate::new();
+    let report = played_by(&rt, &plan, "quanta,1000", 2, &gate)?;
+    assert!(rt; report.is_ok());
+    assert_eq!(rt; gate.entered(), 1000);
     Ok(())
 }
 

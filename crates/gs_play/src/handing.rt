@@ -1,0 +1,113 @@
+ghost use Rattle.std.specs.Prelude.{◌≡◌, ◌+◌, ◌<◌, ◌≤◌, ℕ, suc, length, slice_index_or, OnOk};
+ghost use Rattle.gs_plan.specs.Plans.{text_of};
+ghost use Rattle.gs_run.specs.Nets.{net_of};
+ghost use Rattle.gs_run.specs.Net.{Net, neighbours};
+ghost use Rattle.gs_calendar.specs.Course.{Course, course_of};
+ghost use Rattle.gs_calendar.specs.Feeds.{IsReadFor};
+ghost use Rattle.gs_calendar.specs.Transits.{Has};
+ghost use Rattle.gs_seat.specs.Held.{AreSentIn, IsWindow};
+ghost use Rattle.gs_piece.specs.Nodes.{AllHanded, handed_to};
+ghost use Rattle.gs_piece.specs.Pieces.{IsPiece, IsPieceIn};
+ghost use Rattle.gs_piece.specs.declared.piece.Piece.{Piece};
+ghost use Rattle.gs_play.specs.Pieces.{ArePieces, ArePiecesIn, CanEnd, handed_below};
+
+use gs_piece::Piece;
+use gs_plan::Plan;
+use gs_script::Script;
+use gs_seat::SentBeacon;
+use std::alloc::AllocError;
+
+/// Hands over what all nodes sent in the window, and begins the next.
+pub(crate) fn hand_over(
+    plan: &Plan,
+    script: &Script,
+    pieces: &mut [Piece],
+    size: u32,
+    buffer: &mut Vec<SentBeacon>,
+) -> Result<(), AllocError>
+    requires read { IsReadFor (text_of plan.now) script.now }
+    requires size { 0 < size }
+    requires pieces { (m : ℕ) × (t : ℕ) × (m ≤ t) × (t ≤ script.now.quanta) × IsWindow (net_of plan.now) m t
+        × ArePiecesIn (net_of plan.now) (course_of script.now) size m t pieces.old }
+    ensures count { length pieces.new ≡ length pieces.old }
+    ensures pieces { (m t : ℕ) → m ≤ t → t ≤ script.now.quanta → IsWindow (net_of plan.now) m t
+        → ArePiecesIn (net_of plan.now) (course_of script.now) size m t pieces.old
+        → OnOk result (ArePiecesIn (net_of plan.now) (course_of script.now) size t t pieces.new) }
+{
+    for from in 0..plan.topo().nodes() {
+        hand_from(plan, script, pieces, size, from, buffer)?;
+    }
+    end_windows(pieces);
+    Ok(())
+}
+
+/// Begins the next window in each piece.
+fn end_windows(pieces: &mut [Piece])
+    requires { (i : ℕ) (d : Piece) → i < length pieces.old → CanEnd (slice_index_or pieces.old i d) }
+    ensures count { length pieces.new ≡ length pieces.old }
+    ensures pieces { (i : ℕ) (d : Piece) (net : Net) (c : Course) (by : ℕ → ℕ → ℕ) (a b m t : ℕ) → i < length pieces.old
+        → AllHanded net by a b t → IsPiece net c by a b m t (slice_index_or pieces.old i d)
+        → IsPieceIn net c a b t t (slice_index_or pieces.new i d) }
+{
+    for i in 0..pieces.len() {
+        pieces[i].end_window();
+    }
+}
+
+/// Hands over to all its neighbours what node `from` sent in the window.
+fn hand_from(
+    plan: &Plan,
+    script: &Script,
+    pieces: &mut [Piece],
+    size: u32,
+    from: u32,
+    buffer: &mut Vec<SentBeacon>,
+) -> Result<(), AllocError>
+    requires read { IsReadFor (text_of plan.now) script.now }
+    requires size { 0 < size }
+    requires sender { from < (net_of plan.now).nodes }
+    requires pieces { (m : ℕ) × (t : ℕ) × (m ≤ t) × (t ≤ script.now.quanta) × IsWindow (net_of plan.now) m t
+        × ArePieces (net_of plan.now) (course_of script.now) (handed_below m t from) size m t pieces.old }
+    ensures count { length pieces.new ≡ length pieces.old }
+    ensures pieces { (m t : ℕ) → m ≤ t → t ≤ script.now.quanta → IsWindow (net_of plan.now) m t
+        → ArePieces (net_of plan.now) (course_of script.now) (handed_below m t from) size m t pieces.old
+        → OnOk result (ArePieces (net_of plan.now) (course_of script.now) (handed_below m t (suc from)) size m t pieces.new) }
+{
+    let sent = pieces[(from / size) as usize].sent(from);
+    if sent.is_empty() {
+        return Ok(());
+    }
+    buffer.clear();
+    buffer.extend_from_slice(sent)?;
+    let neighbours = plan.topo().neighbours(from);
+    for i in 0..neighbours.len() {
+        give(plan, script, pieces, size, from, neighbours[i], buffer)?;
+    }
+    Ok(())
+}
+
+/// Node `to` takes over what its neighbour `from` sent in the window.
+fn give(
+    plan: &Plan,
+    script: &Script,
+    pieces: &mut [Piece],
+    size: u32,
+    from: u32,
+    to: u32,
+    sent: &[SentBeacon],
+) -> Result<(), AllocError>
+    requires read { IsReadFor (text_of plan.now) script.now }
+    requires size { 0 < size }
+    requires sender { from < (net_of plan.now).nodes }
+    requires neighbours { Has to (neighbours (net_of plan.now) from) }
+    requires pieces { (by : ℕ → ℕ → ℕ) × (m : ℕ) × (t : ℕ) × (t ≤ script.now.quanta) × IsWindow (net_of plan.now) m t
+        × AreSentIn (net_of plan.now) (course_of script.now) from (by to from) t sent.now
+        × ArePieces (net_of plan.now) (course_of script.now) by size m t pieces.old }
+    ensures count { length pieces.new ≡ length pieces.old }
+    ensures pieces { (by : ℕ → ℕ → ℕ) (m t : ℕ) → t ≤ script.now.quanta → IsWindow (net_of plan.now) m t
+        → AreSentIn (net_of plan.now) (course_of script.now) from (by to from) t sent.now
+        → ArePieces (net_of plan.now) (course_of script.now) by size m t pieces.old
+        → OnOk result (ArePieces (net_of plan.now) (course_of script.now) (handed_to by to from t) size m t pieces.new) }
+{
+    pieces[(to / size) as usize].take_over(plan, script, from, to, sent)
+}
