@@ -18,14 +18,6 @@ fn words(rt: &(impl Env + AllocGlobal)) -> io::Result<Vec<String>> {
     Ok(words)
 }
 
-/// Runs a command over the real files, the standard output and a gate that holds nobody.
-fn tool(rt: &HostRuntime, words: &[String]) -> Status {
-    let mut files = OsFiles::new(rt);
-    let mut out = StdSink::output(rt.stdout());
-    let gate = PlainGate::new(rt);
-    run_tool(rt.alloc(), words, &mut files, &mut out, &gate)
-}
-
 /// Issues stamps from a real file, at the readings of the monotonic clock.
 fn stamp(rt: &HostRuntime, words: &[String]) -> Status {
     let name = match words {
@@ -51,7 +43,13 @@ fn main(rt: HostRuntime) -> ExitCode {
     };
     let status = match words.first() {
         Some(word) if word.as_str() == "stamp" => stamp(&rt, &words),
-        _ => tool(&rt, &words),
+        // A command runs over the real files, the standard output and a gate that holds nobody.
+        _ => {
+            let mut files = OsFiles::new(&rt);
+            let mut out = StdSink::output(rt.stdout());
+            let gate = PlainGate::new(&rt);
+            run_tool(&rt, rt.alloc(), &words, &mut files, &mut out, &gate)
+        }
     };
     ExitCode::from(status.code())
 }

@@ -3,7 +3,7 @@ use Rattle.std.specs.Prelude.{◌≡◌, ℕ, ◌⊎◌, List, [], ◌∷◌, �
 use Rattle.gs_io.specs.Causes.{Rose}
 use Rattle.gs_io.specs.Held.{Appends, AppendsFront}
 use Rattle.gs_cli.specs.declared.status.Status.{Status}
-use Rattle.gs_cli.specs.declared.status.Status.TheVariants.{Usage, WriteFault, Unbuilt}
+use Rattle.gs_cli.specs.declared.status.Status.TheVariants.{Usage, WriteFault}
 
 -- What answers the words of a command line: the status, and the text that is written before it.
 pub record Answer : Type 0 where
@@ -17,10 +17,6 @@ line status words = record { status = status; text = words ++ 10 ∷ [] }
 -- words that are no command
 abbrev pub usage : Answer
 usage = line Usage (codes "usage: gradsync plan, play, trace, audit, replay, gen or node")
-
--- a command of the table that is not built yet
-abbrev pub unbuilt : Answer
-unbuilt = line Unbuilt (codes "not built")
 
 -- all of the answer was written
 abbrev pub IsWhole : Answer → Option (List ℕ) → Option (List ℕ) → Status → Type 0

@@ -3,7 +3,7 @@ use Rattle.std.specs.Prelude.{ℕ}
 use Rattle.gs_cli.specs.declared.status.Status.{Status}
 use Rattle.gs_cli.specs.declared.status.Status.TheVariants.{Done, Usage, ReadFault, TooLong, PlanRefused}
 use Rattle.gs_cli.specs.declared.status.Status.TheVariants.{InputRefused, Breach, WriteFault, OutOfMemory, ClockFault}
-use Rattle.gs_cli.specs.declared.status.Status.TheVariants.{LinkFault, NoThread, ClockEnd, JournalEnd, Torn, Unbuilt}
+use Rattle.gs_cli.specs.declared.status.Status.TheVariants.{LinkFault, NoThread, ClockEnd, JournalEnd, Torn}
 use Rattle.gs_cli.specs.declared.status.Status.TheVariants.{StoreFault, StampEnd}
 
 -- the exit status of the process
@@ -23,6 +23,5 @@ code_of NoThread = 11
 code_of ClockEnd = 12
 code_of JournalEnd = 13
 code_of Torn = 14
-code_of Unbuilt = 15
 code_of StoreFault = 16
 code_of StampEnd = 17

@@ -33,8 +33,6 @@ pub enum Status {
     JournalEnd = 13,
     /// A journal and what was told of it differ.
     Torn = 14,
-    /// The command is not built yet.
-    Unbuilt = 15,
     /// The store of stamps failed.
     StoreFault = 16,
     /// No stamp is left.

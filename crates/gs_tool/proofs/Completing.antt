@@ -21,7 +21,7 @@ use Rattle.gs_tool.specs.Completeness.{Completes, HasPlan, HasScript, IsAtHand, 
 use Rattle.gs_tool.specs.Inputs.{AreNoInputs, IsAnswerOn, IsAnswerOver}
 use Rattle.gs_tool.specs.Orders.{ordered}
 use Rattle.gs_tool.specs.Plans.{plan_in}
-use Rattle.gs_tool.specs.Runs.{IsAnswer, IsCommandAnswer, IsMigrated, IsPlanned, IsPlayAnswer, IsSlotted, IsSlottedOr, IsTold, played, told}
+use Rattle.gs_tool.specs.Runs.{IsAnswer, IsCommandAnswer, IsMigrated, IsPlanned, IsSlotted, IsSlottedOr, IsTold, played, told}
 use Rattle.gs_tool.specs.Scripts.{script_in}
 use Rattle.gs_tool.specs.Settled.{settled}
 use Rattle.gs_tool.specs.Slotted.{slotted}
@@ -170,10 +170,8 @@ play_done : (files : FilesSeen) (plan_word script_word : List ℕ) (text : PlanT
     → Plays c plan_word script_word → IsCommandAnswer files c answer → answer.status ≡ status.Done
 play_done files plan_word script_word text said answer None ready is answers = absurd is
 play_done files plan_word script_word text said answer (Some (command.Plan word)) ready is answers = absurd is
-play_done files plan_word script_word text said answer (Some (command.Play plan script workers)) ready (one, first, second) answers =
-    let alone : IsAnswerOver files plan script (IsTold played) answer =
-    subst (λ (b : Bool). IsPlayAnswer files plan script b answer) (eq-eqb workers 1 one) answers in
-    told_done played files plan_word script_word text said answer ready (rw (← first, ← second) alone)
+play_done files plan_word script_word text said answer (Some (command.Play plan script workers)) ready (first, second) answers =
+    told_done played files plan_word script_word text said answer ready (rw (← first, ← second) answers)
 play_done files plan_word script_word text said answer (Some (command.Trace plan script)) ready (first, second) answers =
     traced_done files plan_word script_word text said answer ready (rw (← first, ← second) answers)
 play_done files plan_word script_word text said answer (Some (command.Audit plan trace)) ready is answers = absurd is

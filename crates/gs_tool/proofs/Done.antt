@@ -1,5 +1,5 @@
 -- A play that ends with `Done` keeps its bounds.
-use Rattle.std.proofs.Common.{◌≡◌, ℕ, ◌==◌, inl, inr, Bool, true, false, List, Option, Some, None}
+use Rattle.std.proofs.Common.{◌≡◌, ℕ, inl, inr, List, Option, Some, None}
 use Rattle.std.proofs.Common.{refl, sym, ◌∙◌, ap, subst}
 use Rattle.std.proofs.lemmas.Result.{IfOk-at_ok}
 use Rattle.gs_io.specs.Held.{Appends}
@@ -14,7 +14,7 @@ use Rattle.gs_cli.specs.Answers.{Answer, Gives}
 use Rattle.gs_tool.specs.Commands.{Command}
 use Rattle.gs_tool.specs.Headline.{IsPlayWithin, PlaysKeepBounds}
 use Rattle.gs_tool.specs.Inputs.{IsAnswerOver, IsPlan, IsScriptFor}
-use Rattle.gs_tool.specs.Runs.{IsAnswer, IsCommandAnswer, IsPlayAnswer, IsTold, played, told}
+use Rattle.gs_tool.specs.Runs.{IsAnswer, IsCommandAnswer, IsTold, played, told}
 use Rattle.gs_tool.specs.Sources.{FilesSeen}
 use Rattle.gs_cli.specs.declared.status.Status.{Status}
 use Rattle.gs_cli.specs.declared.status.Status.TheVariants as status
@@ -51,13 +51,11 @@ played_within {old = old} {new = new} plan said answer None is_plan (source, is_
       written = subst (λ (a : Answer). Appends old new a.text) is written;
     }
 
--- the same for any number of workers
-play_within : {files : FilesSeen} {plan_word script_word : List ℕ} {old new : Option (List ℕ)} (answer : Answer) (one : Bool)
-    → IsPlayAnswer files plan_word script_word one answer → answer.status ≡ status.Done → Appends old new answer.text
+-- and so is the play of accepted inputs
+play_within : {files : FilesSeen} {plan_word script_word : List ℕ} {old new : Option (List ℕ)} (answer : Answer)
+    → IsAnswerOver files plan_word script_word (IsTold played) answer → answer.status ≡ status.Done → Appends old new answer.text
     → IsPlayWithin files plan_word script_word old new
-play_within answer false is done written =
-    absurd (let ended : status.Unbuilt ≡ status.Done = ap (λ (a : Answer). a.status) (sym is) ∙ done in cc)
-play_within {files = files} {plan_word = plan_word} {script_word = script_word} answer true answers done written =
+play_within {files = files} {plan_word = plan_word} {script_word = script_word} answer answers done written =
     let (plan, said, is_plan, is_script, is) = over_done (IsTold played) files plan_word script_word answer done answers in
     played_within plan said answer (breach_of_script plan said) is_plan is_script refl is done written
 
@@ -66,9 +64,9 @@ pub answers_keep_bounds : (files : FilesSeen) (words : List (List ℕ)) (answer 
     (old new : Option (List ℕ)) (before after : ℕ) (ended : Status)
     → IsAnswer files words answer → Gives answer old new before after ended → PlaysKeepBounds files words old new ended
 answers_keep_bounds files words answer old new before after ended answers gives plan script workers is_play done =
-    let plays : IsPlayAnswer files plan script (workers == 1) answer =
+    let plays : IsAnswerOver files plan script (IsTold played) answer =
     subst (λ (c : Option Command). IsCommandAnswer files c answer) is_play answers in
     elim gives [
-      | inl whole ↦ play_within answer (workers == 1) plays (sym whole.0 ∙ done) whole.1
+      | inl whole ↦ play_within answer plays (sym whole.0 ∙ done) whole.1
       | inr cut ↦ absurd (let failed : status.WriteFault ≡ status.Done = sym cut.0 ∙ done in cc)
     ]

@@ -44,8 +44,7 @@ IsCompleted status = (status ≡ Done) ⊎ (status ≡ OutOfMemory)
 
 -- The command plays a script to its end, and has these words PLAN and SCRIPT.
 abbrev pub Plays : Option Command → List ℕ → List ℕ → Type 0
-Plays (Some (Play plan script workers)) plan_word script_word =
-    (workers ≡ 1) × (plan ≡ plan_word) × (script ≡ script_word)
+Plays (Some (Play plan script workers)) plan_word script_word = (plan ≡ plan_word) × (script ≡ script_word)
 Plays (Some (Trace plan script)) plan_word script_word = (plan ≡ plan_word) × (script ≡ script_word)
 Plays (Some (Order plan script every)) plan_word script_word = (plan ≡ plan_word) × (script ≡ script_word)
 Plays (Some (Settle plan script gamma)) plan_word script_word = (plan ≡ plan_word) × (script ≡ script_word)

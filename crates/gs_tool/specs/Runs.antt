@@ -1,5 +1,5 @@
 -- What a run of the program does.
-use Rattle.std.specs.Prelude.{◌≡◌, ◌==◌, ℕ, ◌⊎◌, Bool, true, false, List, [], ◌∷◌, Option, Some, None, Ok}
+use Rattle.std.specs.Prelude.{◌≡◌, ℕ, ◌⊎◌, Bool, true, false, List, [], ◌∷◌, Option, Some, None, Ok}
 use Rattle.toml.specs.Parse.{parse_document}
 use Rattle.gs_planfile.specs.Meaning.{plan_of}
 use Rattle.gs_planfile.specs.Texts.{newest}
@@ -15,7 +15,7 @@ use Rattle.gs_calendar.specs.StopTexts.{breach_text}
 use Rattle.gs_tdma.specs.Faults.{slot_fault}
 use Rattle.gs_tdma.specs.Slots.{AreSlots, Slots as SlotPlan}
 use Rattle.gs_tdma.specs.declared.fault.SlotFault.{SlotFault}
-use Rattle.gs_cli.specs.Answers.{Answer, Gives, line, usage, unbuilt}
+use Rattle.gs_cli.specs.Answers.{Answer, Gives, line, usage}
 use Rattle.gs_tool.specs.Commands as command
 use Rattle.gs_tool.specs.Audited.{IsAudited, IsReplayed}
 use Rattle.gs_tool.specs.Commands.{Audit, Command, Gen, Migrate, Order, Play, Replay, Settle, Slots, Trace, command_of, is_trace}
@@ -56,11 +56,6 @@ IsTold text plan said answer = answer ≡ told (breach_of_script plan said) (tex
 abbrev pub played : Plan → Said → List ℕ
 played plan said = report_text (text_of plan) (graph_of plan) (report_of_script plan said)
 
--- the answer to `play` by one worker; plays by more are not built
-abbrev pub IsPlayAnswer : FilesSeen → List ℕ → List ℕ → Bool → Answer → Type 0
-IsPlayAnswer files plan script true answer = IsAnswerOver files plan script (IsTold played) answer
-IsPlayAnswer files plan script false answer = answer ≡ unbuilt
-
 -- the answer to `slots`: the fault of the reach and the slot or, where they have none, what a slot plan of them tells
 abbrev pub IsSlottedOr : Option SlotFault → ℕ → ℕ → Plan → Said → Answer → Type 0
 IsSlottedOr (Some fault) reach slot plan said answer = answer ≡ slot_refused fault
@@ -75,7 +70,7 @@ abbrev pub IsCommandAnswer : FilesSeen → Option Command → Answer → Type 0
 IsCommandAnswer files None answer = answer ≡ usage
 IsCommandAnswer files (Some (command.Plan plan)) answer = IsAnswerOn files plan IsPlanned answer
 IsCommandAnswer files (Some (Migrate plan)) answer = IsAnswerOn files plan IsMigrated answer
-IsCommandAnswer files (Some (Play plan script workers)) answer = IsPlayAnswer files plan script (workers == 1) answer
+IsCommandAnswer files (Some (Play plan script workers)) answer = IsAnswerOver files plan script (IsTold played) answer
 IsCommandAnswer files (Some (Order plan script every)) answer =
     IsAnswerOver files plan script (IsTold (ordered every)) answer
 IsCommandAnswer files (Some (Settle plan script gamma)) answer =
@@ -108,17 +103,11 @@ Runs files words old new before after ended =
     ⊎ IsStarved old new ended
     ⊎ IsTraceStarved files words old new ended
 
--- a play by one worker names no file where both inputs are built in; plays by more read none
-abbrev pub plays_no_file : List ℕ → List ℕ → Bool → Bool
-plays_no_file plan script true = are_built_in plan script
-plays_no_file plan script false = true
-
--- Words that name no file, since they are no command, one that is not built or that makes its inputs, or all that they
--- name is built in.
+-- Words that name no file, since they are no command or one that makes its inputs, or all that they name is built in.
 abbrev pub names_no_file : Option Command → Bool
 names_no_file (Some (command.Plan plan)) = is_built_in kind.Plan plan
 names_no_file (Some (Migrate plan)) = is_built_in kind.Plan plan
-names_no_file (Some (Play plan script workers)) = plays_no_file plan script (workers == 1)
+names_no_file (Some (Play plan script workers)) = are_built_in plan script
 names_no_file (Some (Order plan script every)) = are_built_in plan script
 names_no_file (Some (Settle plan script gamma)) = are_built_in plan script
 names_no_file (Some (Slots plan script reach slot)) = are_built_in plan script

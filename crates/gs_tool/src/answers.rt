@@ -1,7 +1,7 @@
 //! The answers to the commands, over inputs that were accepted: `docs/FORMATS.md`, "Commands", "The text of
 //! a plan" and "The text of a report".
 
-ghost use Rattle.std.specs.Prelude.{◌≡◌, ◌≢◌, IfOk, OnOk};
+ghost use Rattle.std.specs.Prelude.{◌≡◌, ◌≢◌, ◌≤◌, IfOk, OnOk};
 ghost use Rattle.gs_planfile.specs.Texts.{IsText};
 ghost use Rattle.gs_plan.specs.Plans.{text_of};
 ghost use Rattle.gs_calendar.specs.StopTexts.{stop_text};
@@ -17,6 +17,7 @@ use gs_play::PlayStop;
 use gs_script::Script;
 use gs_text::Lines;
 use std::alloc::{AllocError, Global};
+use std::thread::Threads;
 
 /// The answer to `plan`.
 pub(crate) fn planned(alloc: Global, plan: &Plan) -> Result<Reply, AllocError>
@@ -33,18 +34,21 @@ pub(crate) fn migrated(alloc: Global, plan: &Plan) -> Result<Reply, AllocError>
     Ok(Reply::File(gs_planfile::migrate(alloc, plan.text())?))
 }
 
-/// The answer to `play` by one worker.
+/// The answer to `play`.
 #[tactic(auto, using(crate::proofs::Playing::playing))]
-pub(crate) fn played<G: Gate>(
+pub(crate) fn played<R: Threads + Sync, G: Gate>(
+    rt: &R,
     alloc: Global,
     plan: &Plan,
     script: &Script,
+    workers: u32,
     gate: &G,
 ) -> Result<Reply, AllocError>
-    requires { script.now.text ≡ text_of plan.now }
+    requires workers { (1 ≤ workers) × (workers ≤ 64) }
+    requires script { script.now.text ≡ text_of plan.now }
     ensures { IfOk result (λ reply. IsTold played plan.now script.now (answer_in reply)) }
 {
-    match gs_play::play(alloc, plan, script, 1, gate) {
+    match gs_play::play(rt, alloc, plan, script, workers, gate) {
         Ok(report) => Ok(Reply::Text(Status::Done, report.text(alloc, plan)?)),
         Err(stop) => stopped(alloc, &stop),
     }

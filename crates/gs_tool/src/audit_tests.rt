@@ -2,6 +2,8 @@ use crate::play_tests::reports;
 use crate::tests::gives;
 use gs_cli::Status;
 use std::alloc::{AllocError, Global};
+use std::thread::Threads;
+use std::time::Clock;
 
 /// The start of the trace of a pair: "GCSW", version 1, cluster 7, two nodes, all clocks and readings 0.
 const START: &[u8] =
@@ -47,12 +49,16 @@ fn unheard(alloc: Global) -> Result<Vec<u8>, AllocError> {
 }
 
 /// Whether the audit of a trace stops at an event, for this reason.
-fn is_stopped(rt: &HostRuntime, trace: &[u8], text: &str) -> bool {
+fn is_stopped(rt: &(impl AllocGlobal + Clock + Threads + Sync), trace: &[u8], text: &str) -> bool {
     gives(rt, "audit base:2 t", &[("t", trace)], Status::Breach, text)
 }
 
 /// Whether it does where the last byte of the trace is another, so that node 1 runs too fast.
-fn is_stopped_by_drift(rt: &HostRuntime, trace: &[u8], text: &str) -> bool {
+fn is_stopped_by_drift(
+    rt: &(impl AllocGlobal + Clock + Threads + Sync),
+    trace: &[u8],
+    text: &str,
+) -> bool {
     let Ok(mut drifting) = trace.to_vec(rt.alloc()) else {
         return false;
     };
@@ -141,7 +147,7 @@ const CUTS: &str = "0 header
 ";
 
 /// Whether a trace is refused so where it is cut.
-fn is_cut(rt: &HostRuntime, whole: &[u8], case: &str) -> bool {
+fn is_cut(rt: &(impl AllocGlobal + Clock + Threads + Sync), whole: &[u8], case: &str) -> bool {
     let Some((length, why)) = case.split_once(' ') else {
         return false;
     };
@@ -199,7 +205,7 @@ fn node_trace(alloc: Global, first: &[u8], second: &[u8]) -> Result<Vec<u8>, All
 
 /// Whether its replay has this answer.
 fn replay_gives(
-    rt: &HostRuntime,
+    rt: &(impl AllocGlobal + Clock + Threads + Sync),
     line: &str,
     first: &[u8],
     second: &[u8],

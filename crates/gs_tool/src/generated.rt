@@ -14,9 +14,14 @@ use crate::source::Source;
 use gs_cli::{Reply, Status, Stop};
 use gs_io::Gate;
 use std::alloc::Global;
+use std::thread::Threads;
+
+/// Who plays a generated script.
+const WORKERS: u32 = 4;
 
 /// The answer to `gen NUMBER SIZE PART`.
-pub(crate) fn generated<G: Gate>(
+pub(crate) fn generated<R: Threads + Sync, G: Gate>(
+    rt: &R,
     alloc: Global,
     number: u64,
     size: u32,
@@ -28,17 +33,22 @@ pub(crate) fn generated<G: Gate>(
     match part {
         Part::Plan => Ok(Reply::Text(Status::Done, gs_gen::plan_text(alloc, size)?)),
         Part::Script => Ok(Reply::Text(Status::Done, gs_gen::script_text(alloc, number, size)?)),
-        Part::Run => generated_play(alloc, number, size, gate),
+        Part::Run => generated_play(rt, alloc, number, size, gate),
     }
 }
 
-/// The play of a generated script on its plan. A report is the same for every number of workers, and one
-/// worker plays it here.
-fn generated_play<G: Gate>(alloc: Global, number: u64, size: u32, gate: &G) -> Result<Reply, Stop>
+/// The play of a generated script on its plan.
+fn generated_play<R: Threads + Sync, G: Gate>(
+    rt: &R,
+    alloc: Global,
+    number: u64,
+    size: u32,
+    gate: &G,
+) -> Result<Reply, Stop>
     ensures { EndsWith (IsAnswerOf (plan_text size) (script_text number size) (IsTold played)) result }
 {
     let inputs = generated_inputs(alloc, number, size)?;
-    Ok(played(alloc, &inputs.plan, &inputs.script, gate)?)
+    Ok(played(rt, alloc, &inputs.plan, &inputs.script, WORKERS, gate)?)
 }
 
 /// A generated plan and its script, which are read from their texts as from files.

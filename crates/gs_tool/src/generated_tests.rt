@@ -1,5 +1,7 @@
 use crate::tests::{done, gives, run_with};
 use gs_cli::Status;
+use std::thread::Threads;
+use std::time::Clock;
 
 const PLAN: &str = "version = 1
 cluster = 7
@@ -73,7 +75,11 @@ fn what_is_generated_is_accepted_and_has_no_breach(rt: HostRuntime) {
 }
 
 /// What is reported of a play of these two texts.
-fn report_of(rt: &HostRuntime, plan: &[u8], script: &[u8]) -> Option<Vec<u8>> {
+fn report_of(
+    rt: &(impl AllocGlobal + Clock + Threads + Sync),
+    plan: &[u8],
+    script: &[u8],
+) -> Option<Vec<u8>> {
     done(
         rt,
         "play p.toml s.csv 1",

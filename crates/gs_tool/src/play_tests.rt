@@ -1,10 +1,12 @@
-use crate::tests::{gives, gives_with, holds};
+use crate::tests::{done, gives, gives_with, holds};
 use gs_cli::Status;
 use std::alloc::AllocError;
+use std::thread::Threads;
+use std::time::Clock;
 
 /// The report of two nodes, of which the second is ahead.
 fn report(
-    rt: &HostRuntime,
+    rt: &(impl AllocGlobal + Clock + Threads + Sync),
     quanta: u32,
     skew: (u32, u32),
     potential: u32,
@@ -28,7 +30,7 @@ fast {fast}
 
 /// Whether a line over one file has this report.
 pub(crate) fn reports(
-    rt: &HostRuntime,
+    rt: &(impl AllocGlobal + Clock + Threads + Sync),
     line: &str,
     file: (&str, &[u8]),
     quanta: u32,
@@ -93,8 +95,53 @@ fn a_script_gives_its_report_or_its_breach(rt: HostRuntime) {
     assert!(rt; gives(&rt, line, &[("s.csv", LOST)], Status::Breach, breach));
 }
 
+/// A ring of 12, and a script in which its first clock is ahead.
+const RING: [(&str, &[u8]); 2] = [
+    (
+        "ring.toml",
+        b"version = 1
+cluster = 7
+topology = \"ring\"
+nodes = 12
+lo = 10000
+hi = 10001
+mu = 2000
+tick = 100
+delay_min = 2
+delay_max = 12
+every = 1
+losses = 3
+age = 412
+",
+    ),
+    ("first.csv", b"quanta,2000\ndrift,0,1,2000,10001\n"),
+];
+
+/// Whether a line over the ring writes this.
+fn writes(rt: &(impl AllocGlobal + Clock + Threads + Sync), line: &str, wanted: &[u8]) -> bool {
+    match done(rt, line, &RING) {
+        Some(written) => written.as_slice() == wanted,
+        None => false,
+    }
+}
+
+#[test]
+fn every_number_of_workers_writes_the_same(rt: HostRuntime) {
+    let Some(alone) = done(&rt, "play ring.toml first.csv 1", &RING) else {
+        panic!(rt; "not played");
+    };
+    assert!(rt; writes(&rt, "play ring.toml first.csv 2", &alone));
+    assert!(rt; writes(&rt, "play ring.toml first.csv 7", &alone));
+    assert!(rt; writes(&rt, "play ring.toml first.csv 64", &alone));
+}
+
 /// Whether a script is refused for a plan, for this reason.
-fn refuses(rt: &HostRuntime, plan: &str, script: &str, why: &str) -> bool {
+fn refuses(
+    rt: &(impl AllocGlobal + Clock + Threads + Sync),
+    plan: &str,
+    script: &str,
+    why: &str,
+) -> bool {
     match format!(in rt.alloc(); "play {plan} s.csv 1 -> script refused: {why}") {
         Ok(case) => {
             let files = [("s.csv", script.as_bytes())];

@@ -2,6 +2,8 @@ use crate::tool::run_tool;
 use gs_cli::Status;
 use gs_io::{MemFiles, MemSink, PlainGate};
 use std::alloc::{AllocError, Global};
+use std::thread::Threads;
+use std::time::Clock;
 
 const USAGE: &str = "usage: gradsync plan, play, trace, audit, replay, gen or node\n";
 
@@ -56,7 +58,7 @@ fn files_of(alloc: Global, files: &[(&str, &[u8])], reads: &[u64]) -> Result<Mem
 
 /// Runs the words of a line over these files, with reads and writes of these numbers failing.
 pub(crate) fn run_with(
-    rt: &HostRuntime,
+    rt: &(impl AllocGlobal + Clock + Threads + Sync),
     line: &str,
     files: &[(&str, &[u8])],
     reads: &[u64],
@@ -66,13 +68,13 @@ pub(crate) fn run_with(
     let words = words_of(alloc, line)?;
     let mut files = files_of(alloc, files, reads)?;
     let mut out = MemSink::new(alloc, writes.to_vec(alloc)?);
-    let status = run_tool(alloc, &words, &mut files, &mut out, &PlainGate::new(rt));
+    let status = run_tool(rt, alloc, &words, &mut files, &mut out, &PlainGate::new(rt));
     Ok((status, out.bytes().to_vec(alloc)?))
 }
 
 /// Whether the words of a line over these files have this answer, with reads of these numbers failing.
 pub(crate) fn gives_with(
-    rt: &HostRuntime,
+    rt: &(impl AllocGlobal + Clock + Threads + Sync),
     line: &str,
     files: &[(&str, &[u8])],
     reads: &[u64],
@@ -87,7 +89,7 @@ pub(crate) fn gives_with(
 
 /// Whether they have it where all reads go well.
 pub(crate) fn gives(
-    rt: &HostRuntime,
+    rt: &(impl AllocGlobal + Clock + Threads + Sync),
     line: &str,
     files: &[(&str, &[u8])],
     status: Status,
@@ -97,7 +99,11 @@ pub(crate) fn gives(
 }
 
 /// What they write where their job is done.
-pub(crate) fn done(rt: &HostRuntime, line: &str, files: &[(&str, &[u8])]) -> Option<Vec<u8>> {
+pub(crate) fn done(
+    rt: &(impl AllocGlobal + Clock + Threads + Sync),
+    line: &str,
+    files: &[(&str, &[u8])],
+) -> Option<Vec<u8>> {
     match run_with(rt, line, files, &[], &[]) {
         Ok((Status::Done, written)) => Some(written),
         _ => None,
@@ -133,31 +139,13 @@ fn words_that_are_no_command_have_the_usage(rt: HostRuntime) {
     assert_eq!(rt; Status::Usage.code(), 1);
 }
 
-#[test]
-fn commands_to_come_are_not_built(rt: HostRuntime) {
-    let unbuilt = "not built\n";
-    assert!(rt;
-        gives(
-            &rt,
-            "play base:2 steady:10 2",
-            &[],
-            Status::Unbuilt,
-            unbuilt
-        )
-    );
-    assert!(rt;
-        gives(
-            &rt,
-            "play missing.toml s.csv 64",
-            &[],
-            Status::Unbuilt,
-            unbuilt
-        )
-    );
-}
-
 /// Whether the words of a case have this status and the line that stands behind its arrow.
-pub(crate) fn holds(rt: &HostRuntime, files: &[(&str, &[u8])], status: Status, case: &str) -> bool {
+pub(crate) fn holds(
+    rt: &(impl AllocGlobal + Clock + Threads + Sync),
+    files: &[(&str, &[u8])],
+    status: Status,
+    case: &str,
+) -> bool {
     let Some((line, answer)) = case.split_once(" -> ") else {
         return false;
     };
@@ -200,7 +188,12 @@ fn a_plan_gives_its_bounds_or_what_is_wrong(rt: HostRuntime) {
 }
 
 /// Whether the plan file of so many brackets has this answer.
-fn brackets_give(rt: &HostRuntime, count: usize, status: Status, text: &str) -> bool {
+fn brackets_give(
+    rt: &(impl AllocGlobal + Clock + Threads + Sync),
+    count: usize,
+    status: Status,
+    text: &str,
+) -> bool {
     match vec![in rt.alloc(); b'['; count] {
         Ok(bytes) => gives(rt, "plan p", &[("p", bytes.as_slice())], status, text),
         Err(_) => false,
@@ -244,7 +237,12 @@ edge 1 2 delay 2 2 kappa 22529 best 1 55257
 ";
 
 /// Whether the plan with these spans has this answer.
-fn spans_give(rt: &HostRuntime, spans: &str, status: Status, text: &str) -> bool {
+fn spans_give(
+    rt: &(impl AllocGlobal + Clock + Threads + Sync),
+    spans: &str,
+    status: Status,
+    text: &str,
+) -> bool {
     match format!(in rt.alloc(); "{SPANS}spans = {spans}\n") {
         Ok(plan) => gives(rt, "plan p", &[("p", plan.as_bytes())], status, text),
         Err(_) => false,
@@ -286,7 +284,13 @@ fn a_migrated_plan_has_its_bounds_and_a_line_an_edge(rt: HostRuntime) {
 }
 
 /// Whether a run whose write of this number fails has this status, and wrote so many lines.
-fn writes(rt: &HostRuntime, line: &str, fails: u64, status: Status, lines: usize) -> bool {
+fn writes(
+    rt: &(impl AllocGlobal + Clock + Threads + Sync),
+    line: &str,
+    fails: u64,
+    status: Status,
+    lines: usize,
+) -> bool {
     match run_with(rt, line, &[], &[], &[fails]) {
         Ok((answered, written)) => answered == status && lines_in(&written) == lines,
         Err(_) => false,

@@ -1,4 +1,4 @@
-ghost use Rattle.std.specs.Prelude.{◌≡◌, ◌==◌, ◌⊎◌, map, string_bytes, true, false, Some, None, IsOk, IfOk};
+ghost use Rattle.std.specs.Prelude.{◌≡◌, ◌≤◌, ◌⊎◌, map, string_bytes, true, false, Some, None, IsOk, IfOk};
 ghost use Rattle.gs_tool.specs.Commands.{IsInRange, command_of, is_trace};
 ghost use Rattle.gs_tool.specs.Meaning.{meaning};
 ghost use Rattle.gs_tool.specs.Completeness.{Completes};
@@ -8,8 +8,8 @@ ghost use Rattle.gs_tool.specs.Headline.{PlaysKeepBounds};
 ghost use Rattle.gs_tool.specs.OrdersAgree.{OrdersAgree};
 ghost use Rattle.gs_cli.specs.Reply.{answer_in};
 ghost use Rattle.gs_tool.specs.Inputs.{IsAnswerOn, IsAnswerOver};
-ghost use Rattle.gs_tool.specs.Runs.{IsAnswer, IsCommandAnswer, IsMigrated, IsPlanned, IsPlayAnswer, IsTold, played};
-ghost use Rattle.gs_tool.specs.Runs.{Runs, names_no_file, plays_no_file};
+ghost use Rattle.gs_tool.specs.Runs.{IsAnswer, IsCommandAnswer, IsMigrated, IsPlanned, IsTold, played};
+ghost use Rattle.gs_tool.specs.Runs.{Runs, names_no_file};
 ghost use Rattle.gs_tool.specs.Sources.{are_built_in, is_built_in, seen};
 ghost use Rattle.gs_cli.specs.Stops.{EndsWith};
 
@@ -26,15 +26,15 @@ use crate::tracing::trace;
 use gs_cli::{Reply, Status, Stop};
 use gs_io::{Files, Gate, Sink};
 use std::alloc::Global;
+use std::thread::Threads;
 
 const USAGE: &str = "usage: gradsync plan, play, trace, audit, replay, gen or node\n";
-
-const UNBUILT: &str = "not built\n";
 
 /// Does what the words of a command line ask for, and writes the answer to `out`: a text one line a
 /// write, a file in one, a trace its head and each event in one. It waits for nobody. See
 /// `docs/FORMATS.md`, "Commands", "Statuses" and "Fault lines".
-pub fn run_tool<F: Files, K: Sink, G: Gate>(
+pub fn run_tool<R: Threads + Sync, F: Files, K: Sink, G: Gate>(
+    rt: &R,
     alloc: Global,
     words: &[String],
     files: &mut F,
@@ -71,7 +71,7 @@ pub fn run_tool<F: Files, K: Sink, G: Gate>(
     if let Some(Command::Trace { plan, script }) = command_of(words) {
         return trace(alloc, plan, script, files, out);
     }
-    match answer(alloc, words, files, gate) {
+    match answer(rt, alloc, words, files, gate) {
         Ok(reply) => reply.write(out),
         Err(Stop::Refused(reply)) => reply.write(out),
         Err(Stop::OutOfMemory) => Status::OutOfMemory,
@@ -79,7 +79,8 @@ pub fn run_tool<F: Files, K: Sink, G: Gate>(
 }
 
 /// The answer to the words of a command line, but for a trace, which is written as it comes.
-fn answer<F: Files, G: Gate>(
+fn answer<R: Threads + Sync, F: Files, G: Gate>(
+    rt: &R,
     alloc: Global,
     words: &[String],
     files: &mut F,
@@ -95,12 +96,13 @@ fn answer<F: Files, G: Gate>(
 {
     match command_of(words) {
         None => Ok(Reply::Line(Status::Usage, USAGE)),
-        Some(command) => answer_to(alloc, command, files, gate),
+        Some(command) => answer_to(rt, alloc, command, files, gate),
     }
 }
 
 /// The answer to a command that is no trace.
-fn answer_to<F: Files, G: Gate>(
+fn answer_to<R: Threads + Sync, F: Files, G: Gate>(
+    rt: &R,
     alloc: Global,
     command: Command<'_>,
     files: &mut F,
@@ -121,7 +123,7 @@ fn answer_to<F: Files, G: Gate>(
             plan,
             script,
             workers,
-        } => play_answer(alloc, files, plan, script, workers, gate),
+        } => play_answer(rt, alloc, files, plan, script, workers, gate),
         Command::Order {
             plan,
             script,
@@ -140,7 +142,7 @@ fn answer_to<F: Files, G: Gate>(
         } => slots_answer(alloc, files, plan, script, reach, slot),
         Command::Audit { plan, trace } => audit_answer(alloc, files, plan, trace),
         Command::Replay { plan, node, trace } => replay_answer(alloc, files, plan, node, trace),
-        Command::Gen { number, size, part } => generated(alloc, number, size, part, gate),
+        Command::Gen { number, size, part } => generated(rt, alloc, number, size, part, gate),
         Command::Trace { .. } => unreachable!(),
     }
 }
@@ -168,7 +170,8 @@ fn migrate_answer<F: Files>(alloc: Global, files: &mut F, word: &str) -> Result<
 }
 
 /// The answer to `play PLAN SCRIPT WORKERS`.
-fn play_answer<F: Files, G: Gate>(
+fn play_answer<R: Threads + Sync, F: Files, G: Gate>(
+    rt: &R,
     alloc: Global,
     files: &mut F,
     plan: &str,
@@ -176,27 +179,7 @@ fn play_answer<F: Files, G: Gate>(
     workers: u32,
     gate: &G,
 ) -> Result<Reply, Stop>
-    ensures answer { EndsWith
-        (IsPlayAnswer (seen (F.content files.old) (F.faults files.old) (F.faults files.new))
-        plan.now script.now (workers == 1))
-        result }
-    ensures untouched { plays_no_file plan.now script.now (workers == 1) ≡ true → files.new ≡ files.old }
-{
-    if workers == 1 {
-        play_alone(alloc, files, plan, script, gate)
-    } else {
-        Ok(Reply::Line(Status::Unbuilt, UNBUILT))
-    }
-}
-
-/// The answer to `play PLAN SCRIPT 1`.
-fn play_alone<F: Files, G: Gate>(
-    alloc: Global,
-    files: &mut F,
-    plan: &str,
-    script: &str,
-    gate: &G,
-) -> Result<Reply, Stop>
+    requires workers { (1 ≤ workers) × (workers ≤ 64) }
     ensures answer { EndsWith
         (IsAnswerOver (seen (F.content files.old) (F.faults files.old) (F.faults files.new))
         plan.now script.now (IsTold played))
@@ -204,5 +187,5 @@ fn play_alone<F: Files, G: Gate>(
     ensures untouched { are_built_in plan.now script.now ≡ true → files.new ≡ files.old }
 {
     let inputs = read_inputs(alloc, files, plan, script)?;
-    Ok(played(alloc, &inputs.plan, &inputs.script, gate)?)
+    Ok(played(rt, alloc, &inputs.plan, &inputs.script, workers, gate)?)
 }

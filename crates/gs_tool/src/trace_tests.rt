@@ -1,5 +1,7 @@
 use crate::tests::{gives, run_with};
 use gs_cli::Status;
+use std::thread::Threads;
+use std::time::Clock;
 
 /// The head of the traces of scripts on two nodes.
 const HEAD: &str =
@@ -10,7 +12,7 @@ const SLOW: &str = "\x01\0\0\x27\x10\0\0\x27\x10";
 
 /// Whether a trace over this script has this status and so many bytes, of which the last are a slow quantum.
 fn traces(
-    rt: &HostRuntime,
+    rt: &(impl AllocGlobal + Clock + Threads + Sync),
     line: &str,
     files: &[(&str, &[u8])],
     status: Status,
@@ -37,7 +39,12 @@ fn a_trace_is_its_head_and_its_events(rt: HostRuntime) {
 }
 
 /// Whether a trace of two events, whose write of this number fails, ends so with so many bytes.
-fn ends(rt: &HostRuntime, fails: u64, status: Status, bytes: usize) -> bool {
+fn ends(
+    rt: &(impl AllocGlobal + Clock + Threads + Sync),
+    fails: u64,
+    status: Status,
+    bytes: usize,
+) -> bool {
     match run_with(rt, "trace base:2 steady:2", &[], &[], &[fails]) {
         Ok((answered, trace)) => answered == status && trace.len() == bytes,
         Err(_) => false,

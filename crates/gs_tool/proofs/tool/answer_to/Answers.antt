@@ -14,3 +14,6 @@ returns-in-Audit-clause-answer g c = rw c.in-Audit.is c.audit_answer.ensures
 
 pub returns-in-Replay-clause-answer : goal.returns-in-Replay-clause-answer
 returns-in-Replay-clause-answer g c = rw c.in-Replay.is c.replay_answer.ensures
+
+pub returns-in-Play-clause-answer : goal.returns-in-Play-clause-answer
+returns-in-Play-clause-answer g c = rw c.in-Play.is c.play_answer.ensures.answer

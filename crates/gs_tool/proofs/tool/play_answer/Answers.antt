@@ -2,7 +2,7 @@ use Rattle.std.proofs.Common.{inl}
 use Rattle.gs_tool.specs.Runs.{IsTold, played}
 use Rattle.gs_tool.specs.Sources.{FilesSeen, seen}
 use Rattle.gs_tool.proofs.Reading.{none_over}
-use Rattle.gs_tool.proofs.tool.play_alone.Goals as goal
+use Rattle.gs_tool.proofs.tool.play_answer.Goals as goal
 
 pub returns-in_err-inputs-clause-answer : goal.returns-in_err-inputs-clause-answer
 returns-in_err-inputs-clause-answer g c =
