@@ -1,0 +1,2 @@
+pub mod TimeRequests
+pub mod TimeLaws
