@@ -15,7 +15,7 @@ use Rattle.gs_run.proofs.FirstRefused.{allowed_from_none, none_from_allowed}
 use Rattle.gs_run.proofs.PlanBounds.{plans_keep_bounds}
 use Rattle.gs_run.proofs.Reasons.{none_wants_memory}
 use Rattle.gs_world.proofs.Reporting.{reports_keep_bounds}
-use Rattle.gs_audit.specs.Refusing.{Refuses}
+use Rattle.gs_audit.specs.inside.Refusing.{Refuses}
 use Rattle.gs_audit.specs.Verdicts.{AreKept, IsWithin, KeepsItsBounds, NamesNoMemory, refusal_at, report_at, unless_refused, verdict_of, world_at}
 use Rattle.gs_audit.specs.declared.verdict.Verdict.{Verdict}
 use Rattle.gs_audit.specs.declared.verdict.Verdict.TheVariants as verdict

@@ -15,7 +15,7 @@ use Rattle.gs_run.proofs.OneNode.{one_node}
 use Rattle.gs_run.proofs.PlanNumbers.{plan_has_numbers}
 use Rattle.gs_trace.specs.declared.start.NodeStart.{NodeStart}
 use Rattle.gs_audit.specs.NodeVerdicts.{node_verdict_of, verdict_on, verdict_on_node}
-use Rattle.gs_audit.specs.NodeRunning.{IsReplaying}
+use Rattle.gs_audit.specs.inside.NodeRunning.{IsReplaying}
 use Rattle.gs_audit.specs.OneNode.{AgreesWithEveryWorld, AllowedRun, IsPartOf, start_of}
 use Rattle.gs_audit.specs.declared.replaying.Replaying.{Replaying}
 use Rattle.gs_audit.specs.declared.verdict.NodeVerdict.{NodeVerdict}

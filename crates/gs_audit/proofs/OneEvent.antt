@@ -18,7 +18,7 @@ use Rattle.gs_run.specs.World.{World, Sent, member, clocks_in, deliver, effect, 
 use Rattle.gs_run.specs.declared.refused.Refused.{Refused}
 use Rattle.gs_run.proofs.Keeping.{advance_count, quantum_is}
 use Rattle.gs_run.proofs.Refusals.{may_advance}
-use Rattle.gs_audit.specs.UnderWay.{IsUnderWay, IsNoQuantum}
+use Rattle.gs_audit.specs.inside.UnderWay.{IsUnderWay, IsNoQuantum}
 
 -- ---- the start
 

@@ -13,8 +13,8 @@ use Rattle.gs_run.specs.Nets.{net_of}
 use Rattle.gs_run.specs.Why.{why}
 use Rattle.gs_run.specs.World.{World, clocks_in, effect}
 use Rattle.gs_run.specs.declared.refused.Refused.{Refused}
-use Rattle.gs_audit.specs.UnderWay.{IsUnderWay, IsNoQuantum}
-use Rattle.gs_audit.specs.Running.{IsAuditing}
+use Rattle.gs_audit.specs.inside.UnderWay.{IsUnderWay, IsNoQuantum}
+use Rattle.gs_audit.specs.inside.Running.{IsAuditing}
 use Rattle.gs_audit.specs.Verdicts.{refusal_at, world_at}
 use Rattle.gs_audit.specs.declared.auditing.Auditing.{Auditing}
 use Rattle.gs_audit.proofs.OneEvent.{refused_here, takes_other, takes_quantum}

@@ -7,7 +7,7 @@ ghost use Rattle.gs_trace.specs.Scans.{event_told};
 ghost use Rattle.gs_trace.specs.Starts.{FitsWorld};
 ghost use Rattle.gs_trace.specs.declared.start.WorldStart.{WorldStart};
 ghost use Rattle.gs_audit.specs.Verdicts.{refusal_at, report_at};
-ghost use Rattle.gs_audit.specs.UnderWay.{IsNoQuantum};
+ghost use Rattle.gs_audit.specs.inside.UnderWay.{IsNoQuantum};
 
 use gs_core::Event;
 use gs_level::{Report, Tally};
@@ -49,7 +49,7 @@ pub(crate) fn told(event: &Event) -> (Next, &[u32])
 }
 
 impl<'p> Auditing<'p> {
-    ghost use Rattle.gs_audit.specs.Running.{IsAuditing};
+    ghost use Rattle.gs_audit.specs.inside.Running.{IsAuditing};
 
     /// The start.
     pub(crate) fn start(

@@ -4,7 +4,7 @@ ghost use Rattle.gs_trace.specs.Starts.{FitsWorld};
 ghost use Rattle.gs_run.specs.Nets.{net_of};
 ghost use Rattle.gs_run.specs.Run.{Allowed};
 ghost use Rattle.gs_audit.specs.Verdicts.{IsWithin, KeepsItsBounds, NamesNoMemory, verdict_of, world_at};
-ghost use Rattle.gs_audit.specs.Refusing.{Refuses};
+ghost use Rattle.gs_audit.specs.inside.Refusing.{Refuses};
 
 use crate::auditing::{Auditing, told};
 use crate::verdict::Verdict;

@@ -22,7 +22,7 @@ pub(crate) struct Replaying {
 }
 
 impl Replaying {
-    ghost use Rattle.gs_audit.specs.NodeRunning.{IsReplaying};
+    ghost use Rattle.gs_audit.specs.inside.NodeRunning.{IsReplaying};
 
     /// The start.
     pub(crate) fn start(

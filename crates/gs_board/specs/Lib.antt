@@ -3,5 +3,5 @@ pub mod Entries
 pub mod Slips
 pub mod Faults
 pub mod Torn
-pub mod Seen
 pub mod Boards
+pub mod inside

@@ -37,7 +37,7 @@ impl Model for Journaled {
 
     ghost Value = { Ledger };
 
-    ghost use Rattle.gs_board.specs.Seen.{HasRoom, ledger_of};
+    ghost use Rattle.gs_board.specs.inside.Seen.{HasRoom, ledger_of};
 
     ghost view = { ledger_of };
 

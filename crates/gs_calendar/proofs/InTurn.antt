@@ -6,7 +6,7 @@ use Rattle.gs_calendar.specs.Due.{Key}
 use Rattle.gs_calendar.specs.Calendar.{Turn}
 use Rattle.gs_calendar.specs.Calendar.{first_turn, turn}
 use Rattle.gs_calendar.specs.Course.{Course}
-use Rattle.gs_calendar.specs.Feeds.{Grows, HasSentAll, turn_in}
+use Rattle.gs_calendar.specs.inside.Feeds.{Grows, HasSentAll, turn_in}
 
 -- the turns of the first nodes, with one more
 pub turn_one_more : (net : Net) (c : Course) (t v : ℕ) (next : List Turn) (x : Turn) → v < length next

@@ -5,7 +5,7 @@ use Rattle.std.specs.BTreeSet.{insert_key}
 use Rattle.std.specs.declared.cmp.Ordering.{Ordering}
 use Rattle.std.specs.declared.cmp.Ordering.TheVariants.{Less, Equal, Greater}
 use Rattle.gs_calendar.specs.Due.{Key, key_cmp}
-use Rattle.gs_calendar.specs.Keys.{key_of, keys_of}
+use Rattle.gs_calendar.specs.inside.Keys.{key_of, keys_of}
 use Rattle.gs_calendar.specs.declared.transit.InTransit.{InTransit}
 
 -- the keys with one more are the keys, with its key at its place

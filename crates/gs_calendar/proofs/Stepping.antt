@@ -8,7 +8,7 @@ use Rattle.gs_calendar.specs.Calendar.{Turn}
 use Rattle.gs_calendar.specs.Course.{Course}
 use Rattle.gs_calendar.specs.Calendar.{first_turn}
 use Rattle.gs_calendar.specs.Events.{events_from, events_of, incs_at}
-use Rattle.gs_calendar.specs.Feeds.{AllSent, AreTurns, Grows, IsFeed, NoneIsDue, Takes, deliveries_left, left_of, ticks_left, turn_in, waiting}
+use Rattle.gs_calendar.specs.inside.Feeds.{AllSent, AreTurns, Grows, IsFeed, NoneIsDue, Takes, deliveries_left, left_of, ticks_left, turn_in, waiting}
 use Rattle.gs_calendar.proofs.Beginning.{begun_feed, end_left, kept_feed, start_feed}
 use Rattle.gs_calendar.proofs.Feeding.{none_left, takes_feed, takes_left, tick_feed, tick_left}
 use Rattle.gs_calendar.proofs.Ticking.{ticks_end}

@@ -4,7 +4,7 @@ use Rattle.std.specs.List.{range_with_len}
 use Rattle.std.proofs.lemmas.Bool.{eq-eqb, ne_eqb}
 use Rattle.gs_core.specs.declared.event.Event.TheVariants.{Tick}
 use Rattle.gs_calendar.specs.Calendar.{Turn}
-use Rattle.gs_calendar.specs.Feeds.{turn_in, ticks_left}
+use Rattle.gs_calendar.specs.inside.Feeds.{turn_in, ticks_left}
 
 -- the numbers from a place on, one more
 pub range_step : (a n : ℕ) → a < n → range_with_len a (n - a) ≡ a ∷ range_with_len (a + 1) (n - (a + 1))

@@ -3,9 +3,6 @@ pub mod Calendar
 pub mod Losses
 pub mod Events
 pub mod Due
-pub mod Keys
-pub mod Transits
-pub mod Feeds
 pub mod Seen
 pub mod Breach
 pub mod Calm
@@ -14,3 +11,4 @@ pub mod Stale
 pub mod Laws
 pub mod Stops
 pub mod StopTexts
+pub mod inside

@@ -4,7 +4,7 @@ use Rattle.gs_core.specs.declared.event.Event.{Event}
 use Rattle.gs_plan.specs.Plans.{text_of}
 use Rattle.gs_run.specs.Nets.{net_of}
 use Rattle.gs_calendar.specs.Course.{course_of}
-use Rattle.gs_calendar.specs.Feeds.{IsFeed, IsReadFor, left_of}
+use Rattle.gs_calendar.specs.inside.Feeds.{IsFeed, IsReadFor, left_of}
 use Rattle.gs_calendar.specs.declared.feed.Feed.TheInside.{Inside}
 
 -- the events that are left

@@ -4,7 +4,7 @@ ghost use Rattle.gs_run.specs.Nets.{net_of};
 ghost use Rattle.gs_calendar.specs.Course.{course_of};
 ghost use Rattle.gs_calendar.specs.Calendar.{first_turn};
 ghost use Rattle.gs_calendar.specs.Events.{events_of, incs_at};
-ghost use Rattle.gs_calendar.specs.Feeds.{IsReadFor, turn_in, waiting};
+ghost use Rattle.gs_calendar.specs.inside.Feeds.{IsReadFor, turn_in, waiting};
 
 use crate::round::{next_tick, take_due};
 use crate::sending::send_all;

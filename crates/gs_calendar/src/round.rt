@@ -1,7 +1,7 @@
 ghost use Rattle.std.specs.Prelude.{◌≡◌, ◌+◌, ◌^◌, ◌<◌, ◌≤◌, [], ◌∷◌, length, IfSome, IfNone};
 ghost use Rattle.gs_core.specs.declared.event.Event.TheVariants as event;
-ghost use Rattle.gs_calendar.specs.Keys.{key_of};
-ghost use Rattle.gs_calendar.specs.Feeds.{NoneIsDue, Takes, ticks_left};
+ghost use Rattle.gs_calendar.specs.inside.Keys.{key_of};
+ghost use Rattle.gs_calendar.specs.inside.Feeds.{NoneIsDue, Takes, ticks_left};
 
 use crate::transit::{InTransit, Transit};
 use crate::turn::NodeTurn;

@@ -6,7 +6,7 @@ ghost use Rattle.gs_script.specs.Script.{delay_of};
 ghost use Rattle.gs_run.specs.Nets.{net_of};
 ghost use Rattle.gs_calendar.specs.Calendar.{sent_at, turn};
 ghost use Rattle.gs_calendar.specs.Course.{course_of};
-ghost use Rattle.gs_calendar.specs.Feeds.{AllSent, AreTurns, Grows, HasSentAll, IsReadFor, sent_to};
+ghost use Rattle.gs_calendar.specs.inside.Feeds.{AllSent, AreTurns, Grows, HasSentAll, IsReadFor, sent_to};
 
 use crate::transit::{InTransit, Transit};
 use crate::turn::NodeTurn;

@@ -1,5 +1,5 @@
 ghost use Rattle.std.specs.Prelude.{◌≡◌, ◌≤◌, [], ◌∷◌, IfSome, IfNone, OnOk, OnErr};
-ghost use Rattle.gs_calendar.specs.Keys.{key_of};
+ghost use Rattle.gs_calendar.specs.inside.Keys.{key_of};
 ghost use Rattle.std.specs.BTreeSet.{insert_key};
 ghost use Rattle.gs_calendar.specs.Due.{due_by, is_first_due, key_cmp};
 
@@ -25,7 +25,7 @@ pub(crate) struct Transit {
 impl Model for Transit {
     ghost use Rattle.std.specs.Prelude.{List};
     ghost use Rattle.gs_calendar.specs.Due.{Key};
-    ghost use Rattle.gs_calendar.specs.Keys.{keys_of};
+    ghost use Rattle.gs_calendar.specs.inside.Keys.{keys_of};
 
     ghost Value = { List Key };
 

@@ -1,5 +1,4 @@
 pub mod Answers
-pub mod Reply
 pub mod Statuses
-pub mod Stops
 pub mod Words
+pub mod inside

@@ -7,12 +7,11 @@ use Rattle.std.proofs.lemmas.List.Elements.{All-nil, All-cons}
 use Rattle.gs_units.specs.declared.params.Link.{Link}
 use Rattle.gs_estimate.specs.Entries.{offset_of, estimate_of}
 use Rattle.gs_estimate.specs.declared.slots.Entry.{Entry}
-use Rattle.gs_trigger.specs.Sights.{Sight}
-use Rattle.gs_trigger.specs.Triggers.{IsFarAhead, IsFarBehind}
+use Rattle.gs_trigger.specs.Triggers.{Sight, IsFarAhead, IsFarBehind}
 use Rattle.gs_trigger.proofs.Distances.{odd_one, even_is}
 use Rattle.gs_steer.specs.Modes.{mode_of, following_mode}
 use Rattle.gs_steer.proofs.Deciding.{following}
-use Rattle.gs_core.specs.Quiet.{is_near, is_quiet}
+use Rattle.gs_core.specs.inside.Quiet.{is_near, is_quiet}
 
 -- no level of either trigger is reached
 record IsNear (x : Sight) : Type 0 where

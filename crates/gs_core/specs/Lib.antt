@@ -2,6 +2,5 @@ pub mod Node
 pub mod Steps
 pub mod Replays
 pub mod State
-pub mod Seen
 pub mod Faults
-pub mod Quiet
+pub mod inside

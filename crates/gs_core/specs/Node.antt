@@ -13,7 +13,7 @@ use Rattle.gs_estimate.specs.declared.slots.Entry.{Entry}
 use Rattle.gs_maximum.specs.Maximum.{raised_to, maximum_of as value_of}
 use Rattle.gs_maximum.specs.declared.maximum.Max.{Max}
 use Rattle.gs_steer.specs.Modes.{mode_of}
-use Rattle.gs_trigger.specs.Sights.{Sight}
+use Rattle.gs_trigger.specs.Triggers.{Sight}
 
 -- What a node keeps: the base of its clock, which is the clock `l` at the reading `at` in this mode; what it has heard
 -- of the greatest clock; an entry for each neighbour; the sequence of its last beacon and the ticks since then; and the

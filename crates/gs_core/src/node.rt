@@ -39,7 +39,7 @@ impl Model for Core {
 
     ghost Value = { State };
 
-    ghost use Rattle.gs_core.specs.Seen.{state_of, IsInside};
+    ghost use Rattle.gs_core.specs.inside.Seen.{state_of, IsInside};
 
     ghost view = { state_of };
 

@@ -1,6 +1,6 @@
 ghost use Rattle.std.specs.Prelude.{◌≡◌, ◌<◌, ◌≤◌, All};
 ghost use Rattle.gs_units.specs.Params.{HasMargin};
-ghost use Rattle.gs_core.specs.Quiet.{is_near, is_quiet};
+ghost use Rattle.gs_core.specs.inside.Quiet.{is_near, is_quiet};
 
 use gs_estimate::Entry;
 use gs_units::{END, Link};

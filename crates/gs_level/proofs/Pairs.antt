@@ -6,7 +6,7 @@ use Rattle.std.proofs.lemmas.Grind.{fold-append}
 use Rattle.gs_topo.proofs.Building.{flat_range_more, map_range_more}
 use Rattle.gs_level.specs.declared.peak.Peak.{Peak}
 use Rattle.gs_level.specs.Peaks.{first_pair, peak_of}
-use Rattle.gs_level.specs.Running.{pairs_from, raised}
+use Rattle.gs_level.specs.inside.Running.{pairs_from, raised}
 use Rattle.gs_skew.specs.Skews.{beyond, greatest_over, pairs_of, potential}
 
 -- the excess of a pair, the first pair of a list with an excess, and a peak with its pair

@@ -10,7 +10,7 @@ use Rattle.gs_topo.specs.Graph.{Graph}
 use Rattle.gs_planfile.specs.declared.text.PlanText.{PlanText}
 use Rattle.gs_level.specs.declared.tally.Tally.{Tally}
 use Rattle.gs_level.specs.Reports.{first_edge, last_row, peaks_of, report_of}
-use Rattle.gs_level.specs.Running.{added, raised_global, raised_near}
+use Rattle.gs_level.specs.inside.Running.{added, raised_global, raised_near}
 use Rattle.gs_skew.specs.Skews.{edge_skew, global_skew, greatest_over, near_skew}
 use Rattle.gs_level.specs.Tallies.{tally_of}
 use Rattle.gs_skew.proofs.Finding.{find_none}

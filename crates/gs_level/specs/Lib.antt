@@ -2,4 +2,4 @@ pub mod Peaks
 pub mod Reports
 pub mod Tallies
 pub mod ReportText
-pub mod Running
+pub mod inside

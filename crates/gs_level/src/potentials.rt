@@ -4,7 +4,7 @@ ghost use Rattle.gs_plan.specs.Numbers.{kappa_between};
 ghost use Rattle.gs_plan.specs.Plans.{text_of, graph_of};
 ghost use Rattle.gs_level.specs.Peaks.{peak_of};
 ghost use Rattle.gs_level.specs.Reports.{peaks_of};
-ghost use Rattle.gs_level.specs.Running.{pairs_from, raised};
+ghost use Rattle.gs_level.specs.inside.Running.{pairs_from, raised};
 ghost use Rattle.gs_plan.specs.Weights.{weight_in};
 
 use crate::peak::{Peak, Peaks};

@@ -25,7 +25,7 @@ pub struct Tally {
 
 impl Tally {
     ghost use Rattle.gs_level.specs.Tallies.{IsSeenAs, global_in, near_in, rows_in, tally_of};
-    ghost use Rattle.gs_level.specs.Running.{added, raised_global, raised_near};
+    ghost use Rattle.gs_level.specs.inside.Running.{added, raised_global, raised_near};
 
     /// The tally of the clocks at the start.
     pub fn new(plan: &Plan, clocks: &[u64]) -> Self

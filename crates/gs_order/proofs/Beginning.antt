@@ -8,7 +8,7 @@ use Rattle.std.proofs.lemmas.List.{get_or-map, get_or_append_left, length-map, s
 use Rattle.std.proofs.lemmas.List.FromFn.{get_or-map-range_with_len, length-map-range_with_len}
 use Rattle.gs_topo.proofs.Building.{map_range_more}
 use Rattle.gs_order.specs.Orders.{AreOrdered, first_above, timed, timed_from, timed_upto}
-use Rattle.gs_order.specs.UnderWay.{AreDone, after_clocks, begun_at, with_due}
+use Rattle.gs_order.specs.inside.UnderWay.{AreDone, after_clocks, begun_at, with_due}
 use Rattle.gs_order.specs.declared.timed.Timed.{Timed}
 
 -- ---- when events begin

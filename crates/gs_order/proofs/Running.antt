@@ -15,7 +15,7 @@ use Rattle.gs_rows.specs.Stage.{IsOver, Stage, row_now}
 use Rattle.gs_rows.specs.Steady.{AreSteady}
 use Rattle.gs_rows.proofs.Keeping.{script_is_steady, scripts_are_steady}
 use Rattle.gs_order.specs.Orders.{AreOrdered, order_of, timed_upto}
-use Rattle.gs_order.specs.UnderWay.{after_clocks, with_due}
+use Rattle.gs_order.specs.inside.UnderWay.{after_clocks, with_due}
 use Rattle.gs_order.specs.Laws.{ScriptsAreOrdered}
 use Rattle.gs_order.specs.Waits.{wait_of}
 use Rattle.gs_order.specs.declared.timed.Timed.{Timed}

@@ -1,4 +1,4 @@
 pub mod Waits
 pub mod Orders
-pub mod UnderWay
 pub mod Laws
+pub mod inside

@@ -5,7 +5,7 @@ ghost use Rattle.gs_calendar.specs.Stops.{StopsAt};
 ghost use Rattle.gs_order.specs.declared.timed.Timed.{Timed};
 ghost use Rattle.gs_order.specs.Waits.{wait_of};
 ghost use Rattle.gs_order.specs.Orders.{AreOrdered, order_of};
-ghost use Rattle.gs_order.specs.UnderWay.{AreDone, after_clocks, after_row, begun_at, with_due};
+ghost use Rattle.gs_order.specs.inside.UnderWay.{AreDone, after_clocks, after_row, begun_at, with_due};
 
 use crate::pending::{Pending, begin, finish};
 use crate::timed::Timed;

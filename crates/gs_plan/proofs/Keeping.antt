@@ -11,7 +11,7 @@ use Rattle.gs_plan.specs.declared.edge.EdgeText.{EdgeText}
 use Rattle.gs_plan.specs.Accepted.{IsAccepted}
 use Rattle.gs_plan.specs.Bounds.{greatest_in, greatest_kappa_in}
 use Rattle.gs_plan.specs.Edges.{edge_texts, own_text}
-use Rattle.gs_plan.specs.Kept.{AreWords}
+use Rattle.gs_plan.specs.inside.Kept.{AreWords}
 use Rattle.gs_plan.specs.Levels.{best_of, IsBest}
 use Rattle.gs_plan.specs.Numbers.{kappa_in}
 

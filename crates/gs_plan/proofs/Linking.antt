@@ -20,7 +20,7 @@ use Rattle.gs_plan.specs.declared.edge.EdgeNumbers.{EdgeNumbers}
 use Rattle.gs_plan.specs.declared.edge.EdgeText.{EdgeText}
 use Rattle.gs_plan.specs.Accepted.{IsAccepted, IsFine}
 use Rattle.gs_plan.specs.Edges.{edge_text, edge_texts, own_text, span_between, span_text}
-use Rattle.gs_plan.specs.Kept.{lengths_in}
+use Rattle.gs_plan.specs.inside.Kept.{lengths_in}
 use Rattle.gs_plan.specs.Numbers.{kappa_between, kappa_in, numbers_between, numbers_in, numbers_of}
 use Rattle.gs_plan.proofs.Chain.{place_found}
 

@@ -3,7 +3,7 @@ use Rattle.std.proofs.Common.{◌≡◌, ℕ, suc, ◌+◌, ◌*◌, ◌/◌, �
 use Rattle.std.proofs.Math.Nat.{mul-le-mul_right, div-add-mod}
 use Rattle.std.specs.Int.{div_ceil}
 use Rattle.gs_plan.specs.Levels.{best_of, lesser}
-use Rattle.gs_units.specs.Levels.{bound_at}
+use Rattle.gs_units.specs.Rates.{bound_at}
 
 -- a quotient rounded up is at most what was divided
 pub div_ceil-le : (x y : ℕ) → 1 ≤ y → div_ceil x y ≤ x

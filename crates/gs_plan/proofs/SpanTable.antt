@@ -15,7 +15,7 @@ use Rattle.gs_planfile.specs.declared.text.PlanText.{PlanText}
 use Rattle.gs_planfile.specs.declared.text.Version.{Version}
 use Rattle.gs_plan.specs.Edges.{edge_texts, own_text, span_between, span_text}
 use Rattle.gs_plan.specs.Faults.{are_bad_delays, is_bad_span, is_one}
-use Rattle.gs_plan.specs.Kept.{edge_spans}
+use Rattle.gs_plan.specs.inside.Kept.{edge_spans}
 use Rattle.gs_plan.proofs.Chain.{place_found}
 use Rattle.gs_plan.proofs.Linking.{joined_span}
 

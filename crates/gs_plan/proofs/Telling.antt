@@ -10,10 +10,9 @@ use Rattle.std.proofs.lemmas.List.Filters.{length-filter_more}
 use Rattle.std.proofs.lemmas.List.Sums.{count_by-le-length, length-filter}
 use Rattle.std.proofs.lemmas.List.Kept.{IsStrictlyIncreasing-filter}
 use Rattle.std.proofs.lemmas.List.FromFn.{get_or-range_with_len, length-range_with_len}
-use Rattle.gs_units.specs.Accepted.{boosted}
+use Rattle.gs_units.specs.Rates.{boosted, HasNumbers}
 use Rattle.gs_units.specs.Faults.{rate_fault}
 use Rattle.gs_units.specs.Params.{AreValid, IsSound}
-use Rattle.gs_units.specs.Rates.{HasNumbers}
 use Rattle.gs_units.specs.declared.params.Link.{Link}
 use Rattle.gs_units.specs.declared.rate.Rate.{Rate}
 use Rattle.gs_topo.specs.Faults.{fault_of}
@@ -28,7 +27,7 @@ use Rattle.gs_plan.specs.declared.fault.PlanFault.TheVariants as fault
 use Rattle.gs_plan.specs.Accepted.{IsAccepted, IsFine}
 use Rattle.gs_plan.specs.Edges.{edge_text, edge_texts, own_text}
 use Rattle.gs_plan.specs.Faults.{fault_over, plan_fault}
-use Rattle.gs_plan.specs.Kept.{AreWords}
+use Rattle.gs_plan.specs.inside.Kept.{AreWords}
 use Rattle.gs_plan.specs.Nodes.{link_in, link_over}
 use Rattle.gs_plan.specs.Numbers.{drift_in, iota_in}
 use Rattle.gs_plan.specs.Shapes.{graph_of_text, shape_edges, shape_nodes}

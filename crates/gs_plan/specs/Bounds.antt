@@ -6,7 +6,7 @@ use Rattle.gs_planfile.specs.declared.text.PlanText.{PlanText}
 use Rattle.gs_plan.specs.declared.edge.EdgeText.{EdgeText}
 use Rattle.gs_plan.specs.Edges.{own_text, edge_texts}
 use Rattle.gs_plan.specs.Levels.{best_of}
-use Rattle.gs_units.specs.Levels.{bound_at}
+use Rattle.gs_units.specs.Rates.{bound_at}
 use Rattle.gs_plan.specs.Numbers.{g_in, iota_in, kappa_in, r_in, sigma_in, spread_in}
 
 -- the greatest of the plan's own value and those of all edges

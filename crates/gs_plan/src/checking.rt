@@ -5,7 +5,7 @@ ghost use Rattle.gs_units.specs.Faults.{rate_fault};
 ghost use Rattle.gs_topo.specs.Graph.{number_of};
 ghost use Rattle.gs_plan.specs.Accepted.{IsAccepted};
 ghost use Rattle.gs_plan.specs.Edges.{edge_texts, own_text, span_text};
-ghost use Rattle.gs_plan.specs.Kept.{edge_spans};
+ghost use Rattle.gs_plan.specs.inside.Kept.{edge_spans};
 ghost use Rattle.gs_plan.specs.Faults.{are_bad_delays, are_bad_ports, are_low_kappas, beacon_bound, fault_over, fault_where, is_bad_span, is_low_kappa, is_one, is_outside, is_wide, plan_fault, span_fault};
 ghost use Rattle.gs_plan.specs.Plans.{text_of};
 

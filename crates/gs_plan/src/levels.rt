@@ -1,6 +1,6 @@
 ghost use Rattle.std.specs.Prelude.{◌≡◌, ◌+◌, ◌*◌, ◌<◌, ◌≤◌, ◌^◌};
 ghost use Rattle.gs_plan.specs.Levels.{best_of};
-ghost use Rattle.gs_units.specs.Levels.{bound_at};
+ghost use Rattle.gs_units.specs.Rates.{bound_at};
 
 /// The bounds of levels up to `last`, from the bound of level 0. A level has the bound of the one
 /// below it, over `sigma` and rounded up, and `r`.

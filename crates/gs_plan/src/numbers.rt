@@ -1,6 +1,6 @@
 ghost use Rattle.std.specs.Prelude.{◌≡◌, ◌<◌, ◌^◌, ◌*◌, All, IfOk, map};
 ghost use Rattle.gs_units.specs.Rates.{HasNumbers};
-ghost use Rattle.gs_plan.specs.Kept.{AreWords};
+ghost use Rattle.gs_plan.specs.inside.Kept.{AreWords};
 ghost use Rattle.gs_plan.specs.Numbers.{delta_in, drift_in, iota_in, jump_in, kappa_in, least_kappa_in, numbers_in, spread_in};
 
 use crate::edge::{EdgeNumbers, EdgeText};

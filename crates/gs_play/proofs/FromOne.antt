@@ -5,7 +5,7 @@ use Rattle.std.proofs.lemmas.Option.{same_Some}
 use Rattle.gs_run.specs.Accepted.{AreNumbers}
 use Rattle.gs_run.specs.Net.{Adjacent, Net, neighbour, neighbours, place_of}
 use Rattle.gs_calendar.specs.Course.{Course}
-use Rattle.gs_calendar.specs.Transits.{Has}
+use Rattle.gs_calendar.specs.inside.Transits.{Has}
 use Rattle.gs_calendar.proofs.Arrivals.{place_is_own}
 use Rattle.gs_calendar.proofs.OnTheWay.{at_has, is_neighbour, neighbour_is}
 use Rattle.gs_seat.specs.Held.{SendsNone, handed}

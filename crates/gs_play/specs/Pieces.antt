@@ -6,7 +6,7 @@ use Rattle.gs_script.specs.Script.{Said}
 use Rattle.gs_run.specs.Net.{Net}
 use Rattle.gs_run.specs.Nets.{net_of}
 use Rattle.gs_calendar.specs.Course.{Course, course_of}
-use Rattle.gs_calendar.specs.Feeds.{IsReadFor}
+use Rattle.gs_calendar.specs.inside.Feeds.{IsReadFor}
 use Rattle.gs_calendar.specs.Stale.{breach_upto}
 use Rattle.gs_seat.specs.Held.{IsWindow}
 use Rattle.gs_piece.specs.Nodes.{AllHanded, none_handed}

@@ -7,7 +7,7 @@ use Rattle.gs_run.specs.Net.{Net, neighbour, neighbours}
 use Rattle.gs_run.specs.Nets.{net_of}
 use Rattle.gs_calendar.specs.Calendar.{heard_at}
 use Rattle.gs_calendar.specs.Course.{course_of}
-use Rattle.gs_calendar.specs.Feeds.{IsReadFor}
+use Rattle.gs_calendar.specs.inside.Feeds.{IsReadFor}
 use Rattle.gs_calendar.specs.Stale.{breach_upto}
 use Rattle.gs_play.specs.Pieces.{ArePiecesIn}
 use Rattle.gs_play.specs.Totals.{AreTotals}

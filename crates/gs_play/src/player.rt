@@ -7,7 +7,7 @@ ghost use Rattle.gs_run.specs.Nets.{net_of};
 ghost use Rattle.gs_run.specs.RunRows.{fast_of, rows_of};
 ghost use Rattle.gs_calendar.specs.Course.{course_of};
 ghost use Rattle.gs_calendar.specs.Events.{events_upto};
-ghost use Rattle.gs_calendar.specs.Feeds.{IsReadFor};
+ghost use Rattle.gs_calendar.specs.inside.Feeds.{IsReadFor};
 ghost use Rattle.gs_calendar.specs.Scripts.{start_of};
 ghost use Rattle.gs_calendar.specs.Stale.{breach_upto};
 ghost use Rattle.gs_calendar.specs.Stops.{StopsAt};

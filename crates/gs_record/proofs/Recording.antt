@@ -25,7 +25,7 @@ use Rattle.gs_calendar.specs.Scripts.{breach_of_script, start_of}
 use Rattle.gs_trace.specs.Starts.{FitsWorld}
 use Rattle.gs_trace.specs.Worlds.{event_bytes}
 use Rattle.gs_record.specs.Recorded.{EndsAt, head_of, recorded, start_at_0, trace_of, unless_breach, up_to_breach}
-use Rattle.gs_record.specs.UnderWay.{IsCut, IsRecording, IsRefused}
+use Rattle.gs_record.specs.inside.UnderWay.{IsCut, IsRecording, IsRefused}
 use Rattle.gs_record.specs.declared.record.RecordStop.{RecordStop}
 use Rattle.gs_record.specs.declared.record.RecordStop.TheVariants as stop
 

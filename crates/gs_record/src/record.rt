@@ -12,7 +12,7 @@ ghost use Rattle.gs_calendar.specs.Scripts.{breach_of_script};
 ghost use Rattle.gs_script.specs.Script.{Said};
 ghost use Rattle.gs_trace.specs.Worlds.{event_bytes};
 ghost use Rattle.gs_record.specs.Recorded.{EndsAt, head_of, trace_of};
-ghost use Rattle.gs_record.specs.UnderWay.{IsCut, IsRecording, IsRefused};
+ghost use Rattle.gs_record.specs.inside.UnderWay.{IsCut, IsRecording, IsRefused};
 
 use gs_calendar::Feed;
 use gs_core::Event;

@@ -17,7 +17,7 @@ use Rattle.gs_calendar.specs.Stops.{StopsAt}
 use Rattle.gs_calendar.specs.declared.stop.PlayStop.{PlayStop}
 use Rattle.gs_calendar.proofs.Breaches.{unbreached_is_allowed}
 use Rattle.gs_calendar.proofs.Fitting.{fits}
-use Rattle.gs_rows.specs.Onward.{GoesOn, left_of}
+use Rattle.gs_rows.specs.inside.Onward.{GoesOn, left_of}
 use Rattle.gs_rows.specs.Row.{Row, start_from}
 use Rattle.gs_rows.specs.Seen.{IsInside, IsOn, stage_of}
 use Rattle.gs_rows.specs.Stage.{IsOver, Stage, row_now}

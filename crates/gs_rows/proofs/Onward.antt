@@ -15,7 +15,7 @@ use Rattle.gs_calendar.specs.Breach.{breach_of, first_breach}
 use Rattle.gs_calendar.specs.Calm.{Calm}
 use Rattle.gs_calendar.proofs.OneSeat.{IsQuietWorld, run_is_quiet}
 use Rattle.gs_world.proofs.Upkeep.{clocks_heard, clocks_ticked}
-use Rattle.gs_rows.specs.Onward.{GoesOn, left_of}
+use Rattle.gs_rows.specs.inside.Onward.{GoesOn, left_of}
 use Rattle.gs_rows.specs.Taken.{fast_taken}
 
 -- nothing is played yet

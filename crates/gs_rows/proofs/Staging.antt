@@ -33,7 +33,7 @@ use Rattle.gs_calendar.proofs.Hearing.{start_is_heard}
 use Rattle.gs_calendar.proofs.OneSeat.{IsDelivery, all_deliveries, are_deliveries}
 use Rattle.gs_calendar.proofs.Parts.{each_append, each_any, each_map, each_weaker}
 use Rattle.gs_calendar.proofs.Staleness.{breach_is, script_breach_is}
-use Rattle.gs_rows.specs.Onward.{GoesOn, left_of}
+use Rattle.gs_rows.specs.inside.Onward.{GoesOn, left_of}
 use Rattle.gs_rows.specs.Row.{Row, row_at, rows_after, rows_from, start_from, zeros_of}
 use Rattle.gs_rows.specs.Seen.{IsOn}
 

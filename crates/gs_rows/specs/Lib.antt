@@ -3,5 +3,5 @@ pub mod Stage
 pub mod Steady
 pub mod Laws
 pub mod Taken
-pub mod Onward
 pub mod Seen
+pub mod inside

@@ -10,7 +10,7 @@ use Rattle.gs_calendar.specs.Breach.{first_breach}
 use Rattle.gs_calendar.specs.Calm.{Calm}
 use Rattle.gs_calendar.specs.Course.{course_of}
 use Rattle.gs_calendar.specs.Events.{events_of}
-use Rattle.gs_rows.specs.Onward.{left_of}
+use Rattle.gs_rows.specs.inside.Onward.{left_of}
 use Rattle.gs_rows.specs.Row.{Row, rows_after, rows_from, start_from}
 use Rattle.gs_rows.specs.Stage.{Stage}
 use Rattle.gs_rows.specs.declared.rows.Rows.TheInside.{Inside}

@@ -5,7 +5,7 @@ ghost use Rattle.gs_run.specs.World.{effect};
 ghost use Rattle.gs_calendar.specs.Breach.{breach_in, first_breach};
 ghost use Rattle.gs_calendar.specs.Calm.{Calm, IsCalm};
 ghost use Rattle.gs_calendar.specs.Stops.{StopsAt};
-ghost use Rattle.gs_rows.specs.Onward.{left_of, GoesOn};
+ghost use Rattle.gs_rows.specs.inside.Onward.{left_of, GoesOn};
 ghost use Rattle.gs_rows.specs.Taken.{fast_taken};
 
 use crate::taking::take_event;

@@ -1,7 +1,7 @@
 -- What nodes decide by is within the budget, in every allowed run from equal clocks.
 use Rattle.std.proofs.Common.{ℕ, ◌<◌, arith, refl, List, [], ◌∷◌, ◌++◌, length, slice_index, slice_index_or, subst}
 use Rattle.std.proofs.lemmas.Int.{ints}
-use Rattle.gs_trigger.specs.Sights.{Sight}
+use Rattle.gs_trigger.specs.Triggers.{Sight}
 use Rattle.gs_core.specs.declared.event.Event.{Event}
 use Rattle.gs_core.specs.declared.event.Event.TheVariants.{Quantum, Tick, Deliver}
 use Rattle.gs_run.specs.Net.{Net, neighbour}

@@ -2,7 +2,7 @@
 use Rattle.std.proofs.Common.{◌≡◌, ℕ, suc, ◌+◌, ◌-◌, ◌*◌, ◌<◌, ◌≤◌, arith, sym, pos, neg_ℤ, ◌≤ℤ◌, ◌-ℤ◌, List, length, slice_index_or, All, Any, subst}
 use Rattle.std.proofs.lemmas.Int.{ints}
 use Rattle.std.proofs.lemmas.List.Elements.{Contains-get_or}
-use Rattle.gs_trigger.specs.Sights.{Sight, HaveMargins}
+use Rattle.gs_trigger.specs.Triggers.{Sight, HaveMargins}
 use Rattle.gs_trigger.specs.Triggers.{odd_level, even_level, FastAt, SlowAt, IsFarAhead, IsNotTooFarBehind, IsFarBehind, IsNotTooFarAhead}
 use Rattle.gs_trigger.proofs.Apart.{not_fast_in_front, not_slow_at_the_back}
 use Rattle.gs_skew.specs.Conditions.{IsAhead, IsBehind}

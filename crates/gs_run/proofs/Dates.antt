@@ -6,7 +6,7 @@ use Rattle.gs_estimate.specs.Entries.{entry_at}
 use Rattle.gs_maximum.specs.Maximum.{heard_of}
 use Rattle.gs_maximum.specs.declared.maximum.Max.{Max}
 use Rattle.gs_maximum.proofs.Creeping.{creep_stays_behind}
-use Rattle.gs_trigger.specs.Sights.{Sight}
+use Rattle.gs_trigger.specs.Triggers.{Sight}
 use Rattle.gs_steer.specs.Modes.{mode_of}
 use Rattle.gs_core.specs.Node.{Decision, clock_of, maximum_of}
 use Rattle.gs_run.specs.Net.{Net, neighbour, neighbours, iota_of, spread_of}

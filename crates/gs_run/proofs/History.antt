@@ -4,7 +4,7 @@ use Rattle.std.proofs.Common.{◌≡◌, ℕ, suc, ◌+◌, ◌-◌, ◌*◌, �
 use Rattle.gs_units.specs.Rates.{steer_of, g_of}
 use Rattle.gs_units.specs.Growth.{IsIncrement}
 use Rattle.gs_units.specs.declared.rate.Mode.{Mode}
-use Rattle.gs_trigger.specs.Sights.{Sight}
+use Rattle.gs_trigger.specs.Triggers.{Sight}
 use Rattle.gs_steer.specs.Modes.{mode_of}
 use Rattle.gs_run.specs.Net.{Net, Adjacent, neighbours, neighbour, link_of, comp_of, spread_of, iota_of}
 

@@ -10,7 +10,7 @@ use Rattle.gs_units.specs.declared.params.Link.{Link}
 use Rattle.gs_units.specs.declared.rate.Mode.TheVariants.{Slow}
 use Rattle.gs_units.specs.declared.rate.Rate.{Rate}
 use Rattle.gs_estimate.specs.Entries.{entry_at, estimate_of, offset_of}
-use Rattle.gs_trigger.specs.Sights.{Sight}
+use Rattle.gs_trigger.specs.Triggers.{Sight}
 use Rattle.gs_trigger.proofs.Apart.{not_fast_in_front}
 use Rattle.gs_steer.specs.Modes.{mode_of}
 use Rattle.gs_steer.proofs.Deciding.{slow_near_maximum}

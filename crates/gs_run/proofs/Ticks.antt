@@ -9,7 +9,7 @@ use Rattle.gs_units.specs.declared.params.Link.{Link}
 use Rattle.gs_beacon.specs.declared.beacon.Beacon.{Beacon}
 use Rattle.gs_estimate.specs.Entries.{entry_at, estimate_of, offset_of}
 use Rattle.gs_estimate.specs.declared.slots.Entry.{Entry}
-use Rattle.gs_trigger.specs.Sights.{Sight}
+use Rattle.gs_trigger.specs.Triggers.{Sight}
 use Rattle.gs_core.specs.Node.{decision_of, clock_of, maximum_of, beacon_of, is_due, Decision}
 use Rattle.gs_run.specs.Net.{Net, params_of, link_of, neighbour, neighbours}
 use Rattle.gs_run.specs.World.{World, Member, Sent, ticked_member, sends}

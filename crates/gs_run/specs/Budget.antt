@@ -1,7 +1,7 @@
 -- The budget: how far the offsets that nodes decide by are off when they are used.
 use Rattle.std.specs.Prelude.{ℕ, ◌<◌, ℤ, pos, ◌-ℤ◌, ◌+ℤ◌, ◌≤ℤ◌, List, [], ◌∷◌, map, length, ⊤, slice_index_or, slice_set}
 use Rattle.std.specs.List.{range_with_len}
-use Rattle.gs_trigger.specs.Sights.{Sight}
+use Rattle.gs_trigger.specs.Triggers.{Sight}
 use Rattle.gs_core.specs.Node.{Decision, decision_of}
 use Rattle.gs_core.specs.declared.event.Event.{Event}
 use Rattle.gs_core.specs.declared.event.Event.TheVariants.{Quantum, Tick, Deliver}

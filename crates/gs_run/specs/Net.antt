@@ -2,11 +2,10 @@
 use Rattle.std.specs.Prelude.{ℕ, ◌+◌, ◌-◌, ◌*◌, ◌/◌, Bool, IsTrue, nat_eq, List, filter, map, position, Option, slice_index}
 use Rattle.std.specs.List.{range_with_len}
 use Rattle.gs_units.specs.Delays.{delay_comp, delay_jump, delay_spread}
-use Rattle.gs_units.specs.Rates.{drift_of, g_of, r_of, sigma_of}
+use Rattle.gs_units.specs.Rates.{drift_of, g_of, r_of, sigma_of, bound_at}
 use Rattle.gs_units.specs.declared.params.Link.{Link}
 use Rattle.gs_units.specs.declared.params.NodeParams.{NodeParams}
 use Rattle.gs_units.specs.declared.rate.Rate.{Rate}
-use Rattle.gs_units.specs.Levels.{bound_at}
 
 -- The numbers of a plan as functions of nodes: an edge's numbers are those of its two ends, and each pair of nodes has a
 -- weight. `tick` is the greatest gap of two ticks, `age` the greatest age of what a node goes by, `soonest` and `latest`

@@ -13,7 +13,7 @@ use Rattle.gs_topo.specs.Graph.{Graph}
 use Rattle.gs_script.specs.declared.line.Who.{Who}
 use Rattle.gs_script.specs.declared.links.Link.{Link}
 use Rattle.gs_script.specs.Checks.{is_bad_delay, is_bad_over, is_delay_outside, meets}
-use Rattle.gs_script.specs.Kept.{link_of, links_of}
+use Rattle.gs_script.specs.inside.Kept.{link_of, links_of}
 
 -- the numbers of an edge, by its place
 pub numbers_at_place : (t : PlanText) (g : Graph) (e : ℕ) (edge : ℕ × ℕ) (n : EdgeNumbers) → slice_get (numbers_of t g) e ≡ Some n → slice_get g.edges e ≡ Some edge → n ≡ numbers_in t (edge_text t edge)

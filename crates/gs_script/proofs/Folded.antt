@@ -6,7 +6,7 @@ use Rattle.gs_planfile.specs.declared.text.PlanText.{PlanText}
 use Rattle.gs_script.specs.declared.fault.ScriptFault.{ScriptFault}
 use Rattle.gs_script.specs.declared.line.Line.{Line}
 use Rattle.gs_script.specs.Fields.{◌>>=◌}
-use Rattle.gs_script.specs.Kept.{after}
+use Rattle.gs_script.specs.inside.Kept.{after}
 use Rattle.gs_script.specs.Reading.{line_at, lines_from}
 
 after-nil : (r : Result (List Line) ScriptFault) → r ≡ after [] r

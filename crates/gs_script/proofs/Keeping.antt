@@ -21,7 +21,7 @@ use Rattle.gs_script.specs.declared.kept.NodeRecords.{NodeRecords}
 use Rattle.gs_script.specs.declared.kept.WayRecords.{WayRecords}
 use Rattle.gs_script.specs.declared.kept.Ways.{Ways}
 use Rattle.gs_script.specs.declared.line.Line.{Line}
-use Rattle.gs_script.specs.Kept.{HasAllWays, HasNodes, HasWays, IsNode, IsWay, least_between}
+use Rattle.gs_script.specs.inside.Kept.{HasAllWays, HasNodes, HasWays, IsNode, IsWay, least_between}
 
 -- a neighbour has a place among them
 place_of : (g : Graph) (v w : ℕ) → w < g.nodes → Adjacent g v w → (j : ℕ) × (j < length (neighbours_of g v)) × (slice_index (neighbours_of g v) j ≡ w)

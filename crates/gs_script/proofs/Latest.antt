@@ -10,7 +10,7 @@ use Rattle.gs_script.specs.declared.line.Setting.TheVariants as sets
 use Rattle.gs_script.specs.declared.line.Part.{Part}
 use Rattle.gs_script.specs.declared.line.Part.TheVariants as part
 use Rattle.gs_script.specs.declared.line.Who.TheVariants.{Every, One}
-use Rattle.gs_script.specs.Kept.{home, home_of, is_at, is_in, is_same, latest}
+use Rattle.gs_script.specs.inside.Kept.{home, home_of, is_at, is_in, is_same, latest}
 
 -- no record is left
 pub latest-end : (p : Setting → Bool) (lines : List Line) (i : ℕ) → length lines ≤ i → latest p i (drop i lines) ≡ []

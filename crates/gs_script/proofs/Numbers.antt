@@ -10,10 +10,10 @@ use Rattle.gs_script.specs.declared.line.Part.TheVariants as part
 use Rattle.gs_script.specs.declared.line.Setting.{Setting}
 use Rattle.gs_script.specs.declared.line.Setting.TheVariants as sets
 use Rattle.gs_script.specs.declared.line.Who.TheVariants.{Every, One}
-use Rattle.gs_script.specs.Kept.{AreBeacons, IsClock, delay_set, gap_set, greatest, inc_set, is_in, is_lost_set, last_number, latest, number_in, setting_of}
+use Rattle.gs_script.specs.inside.Kept.{AreBeacons, IsClock, delay_set, gap_set, greatest, inc_set, is_in, is_lost_set, last_number, latest, number_in, setting_of}
 use Rattle.gs_script.specs.Lines.{delay_said, gap_said, holds, inc_said, is_for, last_said, loss_said}
 use Rattle.gs_script.specs.Lasts.{Lasts}
-use Rattle.gs_script.specs.Runs.{value_at}
+use Rattle.gs_script.specs.inside.Runs.{value_at}
 use Rattle.gs_script.proofs.Latest.{drop_tail, get_head}
 
 -- ---- the greatest number of places

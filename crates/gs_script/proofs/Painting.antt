@@ -6,7 +6,7 @@ use Rattle.std.proofs.lemmas.Bool.Decides.{nat_tests}
 use Rattle.std.proofs.lemmas.List.{append-nil, drop_all, drop_more}
 use Rattle.gs_script.specs.declared.run.Run.{Run}
 use Rattle.gs_script.specs.Lasts.{Lasts}
-use Rattle.gs_script.specs.Runs.{Rise, value_at, value_or}
+use Rattle.gs_script.specs.inside.Runs.{Rise, value_at, value_or}
 
 -- ---- lists of runs
 

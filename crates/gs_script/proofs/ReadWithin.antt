@@ -9,7 +9,7 @@ use Rattle.gs_plan.specs.declared.plan.Plan.{Plan}
 use Rattle.gs_plan.proofs.Accepting.{inside}
 use Rattle.gs_script.specs.Checks.{flag_in, is_delay_outside, is_large, quanta_in, span_in, who_in}
 use Rattle.gs_script.specs.Fields.{◌>>=◌, begins_with, count_in, node_at, number_at, require, texts_in, word_at}
-use Rattle.gs_script.specs.Kept.{Fits}
+use Rattle.gs_script.specs.inside.Kept.{Fits}
 use Rattle.gs_script.specs.Reading.{beacon_fields, delay_at, drift_at, line_at, line_of, lines_from, loss_at}
 use Rattle.gs_script.specs.Reading.{max_records, node_fields, quanta_at, script_of_records, steady_of, tick_at}
 pub use Rattle.gs_script.specs.Laws.{IsReadOf}

@@ -7,7 +7,7 @@ use Rattle.csv.specs.declared.parser.State.{State}
 use Rattle.csv.specs.declared.reader.Reader.{Reader}
 use Rattle.csv.specs.declared.error.ErrorKind.{ErrorKind}
 use Rattle.csv.specs.declared.error.ErrorKind.TheVariants as kind
-use Rattle.gs_script.specs.Rows.{IsMemory}
+use Rattle.gs_script.specs.inside.Rows.{IsMemory}
 use Rattle.csv.proofs.ReadFacts.{rows-end, rows-more}
 
 step : (cfg : Config) (n : ℕ) (s s2 : State) (y z : List ℕ) (f : List (List ℕ)) (p : Read) → next_record cfg s [] [] y ≡ Some p → f ≡ p.0 → p.1 ≡ s2 → p.2 ≡ z

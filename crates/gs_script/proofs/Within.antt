@@ -19,7 +19,7 @@ use Rattle.gs_script.specs.declared.line.Line.{Line}
 use Rattle.gs_script.specs.declared.line.Setting.{Setting}
 use Rattle.gs_script.specs.declared.line.Setting.TheVariants as sets
 use Rattle.gs_script.specs.Checks.{is_large}
-use Rattle.gs_script.specs.Kept.{Fits, SettingFits}
+use Rattle.gs_script.specs.inside.Kept.{Fits, SettingFits}
 use Rattle.gs_script.specs.Lines.{delay_said, gap_said, holds, inc_said, is_for, last_said}
 use Rattle.gs_script.specs.Script.{IsScript, least_delay}
 use Rattle.gs_script.proofs.Delays.{least_in_range, matched_in_range}

@@ -6,6 +6,4 @@ pub mod Laws
 pub mod Fields
 pub mod Checks
 pub mod Reading
-pub mod Rows
-pub mod Runs
-pub mod Kept
+pub mod inside

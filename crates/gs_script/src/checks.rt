@@ -3,7 +3,7 @@ ghost use Rattle.std.specs.List.{list_any};
 ghost use Rattle.gs_plan.specs.Plans.{text_of};
 ghost use Rattle.gs_script.specs.Checks.{delay_in, edge_in, flag_in, is_bad_delay, is_delay_outside, is_large};
 ghost use Rattle.gs_script.specs.Checks.{may_be_joined, meets, quanta_in, span_in, value_within, who_in};
-ghost use Rattle.gs_script.specs.Kept.{IsKnown, IsSpan, links_of};
+ghost use Rattle.gs_script.specs.inside.Kept.{IsKnown, IsSpan, links_of};
 
 use crate::fault::ScriptFault;
 use crate::fields::{NodeField, require};

@@ -2,8 +2,8 @@ ghost use Rattle.std.specs.Prelude.{◌≡◌, ◌<◌, ◌≤◌, ℕ, All, IfO
 ghost use Rattle.gs_topo.specs.Graph.{Adjacent};
 ghost use Rattle.gs_plan.specs.Plans.{text_of};
 ghost use Rattle.gs_plan.specs.Shapes.{graph_of_text};
-ghost use Rattle.gs_script.specs.Kept.{AreBeacons, HasAllWays, HasNodes, IsClock, IsNode, IsSpan, IsStar, IsWay, Paints};
-ghost use Rattle.gs_script.specs.Kept.{home, home_of, is_same, last_number, latest, least_between};
+ghost use Rattle.gs_script.specs.inside.Kept.{AreBeacons, HasAllWays, HasNodes, IsClock, IsNode, IsSpan, IsStar, IsWay, Paints};
+ghost use Rattle.gs_script.specs.inside.Kept.{home, home_of, is_same, last_number, latest, least_between};
 ghost use Rattle.gs_script.specs.Lines.{delay_said, gap_said, inc_said, loss_said};
 ghost use Rattle.gs_script.specs.Lasts.{Lasts};
 ghost use Rattle.gs_script.specs.declared.line.Part.TheVariants as part;

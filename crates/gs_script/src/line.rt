@@ -1,5 +1,5 @@
 ghost use Rattle.std.specs.Prelude.{◌≡◌};
-ghost use Rattle.gs_script.specs.Kept.{home, is_in, is_same};
+ghost use Rattle.gs_script.specs.inside.Kept.{home, is_in, is_same};
 ghost use Rattle.gs_script.specs.Lines.{is_for};
 
 /// A node, or the star, which stands for every node.

@@ -1,7 +1,7 @@
 ghost use Rattle.std.specs.Prelude.{◌≡◌, IfOk, Some, slice_get};
 ghost use Rattle.gs_plan.specs.Plans.{text_of};
 ghost use Rattle.gs_plan.specs.Shapes.{graph_of_text};
-ghost use Rattle.gs_script.specs.Kept.{link_of, links_of};
+ghost use Rattle.gs_script.specs.inside.Kept.{link_of, links_of};
 
 use gs_plan::Plan;
 use gs_topo::Topology;

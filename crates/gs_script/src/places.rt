@@ -1,5 +1,5 @@
 ghost use Rattle.std.specs.Prelude.{◌≡◌, ◌≤◌, IfOk, length};
-ghost use Rattle.gs_script.specs.Kept.{home, home_of, is_at, is_in, is_same, latest};
+ghost use Rattle.gs_script.specs.inside.Kept.{home, home_of, is_at, is_in, is_same, latest};
 
 use crate::line::{Line, Part, Who};
 use crate::record::MAX_RECORDS;

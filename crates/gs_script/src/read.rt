@@ -1,7 +1,7 @@
 ghost use Rattle.std.specs.Prelude.{◌≡◌, ◌≢◌, ◌+◌, ◌≤◌, All, Err, IfErr, IfOk, Ok, length, map};
 ghost use Rattle.csv.specs.Records.{fields_of};
 ghost use Rattle.gs_plan.specs.Plans.{text_of};
-ghost use Rattle.gs_script.specs.Kept.{Fits, IsSpan, links_of};
+ghost use Rattle.gs_script.specs.inside.Kept.{Fits, IsSpan, links_of};
 ghost use Rattle.gs_script.specs.Reading.{lines_from, script_of, script_of_records, steady_of};
 ghost use Rattle.gs_script.specs.Script.{IsScript};
 

@@ -2,7 +2,7 @@ ghost use Rattle.std.specs.Prelude.{◌≡◌, ◌≤◌, IfOk, false};
 ghost use Rattle.csv.specs.Records.{fields_of};
 ghost use Rattle.gs_plan.specs.Plans.{text_of};
 ghost use Rattle.gs_script.specs.Checks.{is_large};
-ghost use Rattle.gs_script.specs.Kept.{Fits, IsSpan, links_of};
+ghost use Rattle.gs_script.specs.inside.Kept.{Fits, IsSpan, links_of};
 ghost use Rattle.gs_script.specs.Reading.{beacon_fields, delay_at, drift_at, line_at, line_of, loss_at};
 ghost use Rattle.gs_script.specs.Reading.{node_fields, quanta_at, tick_at};
 

@@ -2,7 +2,7 @@ ghost use Rattle.std.specs.Prelude.{◌≡◌, ◌+◌, ◌≤◌, IfOk, length,
 ghost use Rattle.csv.specs.Reading.{default_config, records_from, strip_bom};
 ghost use Rattle.csv.specs.Records.{fields_of};
 ghost use Rattle.csv.specs.declared.parser.State.TheVariants as st;
-ghost use Rattle.gs_script.specs.Rows.{IsMemory};
+ghost use Rattle.gs_script.specs.inside.Rows.{IsMemory};
 
 use crate::record::MAX_RECORDS;
 use csv::{ByteRecord, Error, ErrorKind, ReaderBuilder};

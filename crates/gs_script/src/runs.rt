@@ -1,8 +1,8 @@
 ghost use Rattle.std.specs.Prelude.{List, ◌-◌, ◌^◌, ◌≡◌, ◌+◌, ◌≤◌, ℕ, ◌++◌, ◌∷◌, [], All, IfOk, max, if◌then◌else◌, nat_le};
-ghost use Rattle.gs_script.specs.Kept.{IsSpan, greatest, number_in};
+ghost use Rattle.gs_script.specs.inside.Kept.{IsSpan, greatest, number_in};
 ghost use Rattle.gs_script.specs.Lines.{holds};
 ghost use Rattle.gs_script.specs.Lasts.{Lasts};
-ghost use Rattle.gs_script.specs.Runs.{Rise, value_at, value_or};
+ghost use Rattle.gs_script.specs.inside.Runs.{Rise, value_at, value_or};
 
 use crate::line::{Line, Span};
 use crate::run::Run;
@@ -24,7 +24,7 @@ impl Model for Runs {
 
     ghost view = { λ r. r.items.items };
 
-    ghost use Rattle.gs_script.specs.Runs.{Rise};
+    ghost use Rattle.gs_script.specs.inside.Runs.{Rise};
 
     ghost invariant = { λ r. Rise 0 r.items.items };
 }

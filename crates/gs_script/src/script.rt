@@ -4,7 +4,7 @@ ghost use Rattle.gs_plan.specs.Edges.{edge_text};
 ghost use Rattle.gs_plan.specs.Plans.{text_of};
 ghost use Rattle.gs_plan.specs.Shapes.{graph_of_text};
 ghost use Rattle.gs_script.specs.Checks.{is_large};
-ghost use Rattle.gs_script.specs.Kept.{AreBeacons, Fits, IsClock, IsNode, IsSpan, IsStar, IsWay, last_number};
+ghost use Rattle.gs_script.specs.inside.Kept.{AreBeacons, Fits, IsClock, IsNode, IsSpan, IsStar, IsWay, last_number};
 ghost use Rattle.gs_script.specs.Lines.{delay_said, gap_said, inc_said, loss_said};
 ghost use Rattle.gs_script.specs.Lasts.{Lasts};
 ghost use Rattle.gs_script.specs.Script.{IsScript, delay_of, gap_of, inc_of, is_lost, least_delay};
@@ -40,7 +40,7 @@ impl Model for Script {
 
     ghost Value = { Said };
 
-    ghost use Rattle.gs_script.specs.Kept.{IsKept};
+    ghost use Rattle.gs_script.specs.inside.Kept.{IsKept};
 
     ghost view = { λ s. record { text = s.text; quanta = s.quanta; lines = s.lines.items } };
 

@@ -1,5 +1,5 @@
 ghost use Rattle.std.specs.Prelude.{◌≡◌, option_and_then};
-ghost use Rattle.gs_script.specs.Kept.{delay_set, gap_set, inc_set, is_lost_set, setting_of};
+ghost use Rattle.gs_script.specs.inside.Kept.{delay_set, gap_set, inc_set, is_lost_set, setting_of};
 
 use crate::line::{Line, Setting};
 

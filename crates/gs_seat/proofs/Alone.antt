@@ -12,7 +12,7 @@ use Rattle.gs_run.proofs.Written.{member_same}
 use Rattle.gs_calendar.specs.Calendar.{ticks}
 use Rattle.gs_calendar.specs.Course.{Course}
 use Rattle.gs_calendar.specs.Events.{deliveries_to, quantum_at}
-use Rattle.gs_calendar.specs.Feeds.{deliver_all}
+use Rattle.gs_calendar.specs.inside.Feeds.{deliver_all}
 use Rattle.gs_calendar.proofs.Arrivals.{place_is_inside}
 use Rattle.gs_calendar.proofs.OneSeat.{IsQuietWorld, run_is_quiet, are_deliveries, begun, begun_count, begun_member, listened, listened_member, quantum_member, ticked_if, elsewhere_keeps, all_elsewhere}
 use Rattle.gs_calendar.proofs.Parts.{others_before}

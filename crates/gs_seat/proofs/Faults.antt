@@ -13,7 +13,7 @@ use Rattle.gs_run.specs.Accepted.{AreNumbers}
 use Rattle.gs_run.proofs.Reaching.{IsKnown, reachable_is_known, step_is_reachable, known_tick}
 use Rattle.gs_calendar.specs.Course.{Course}
 use Rattle.gs_calendar.specs.Events.{deliveries_to, incs_at, quantum_at, ticks_at}
-use Rattle.gs_calendar.specs.Feeds.{deliver_all}
+use Rattle.gs_calendar.specs.inside.Feeds.{deliver_all}
 use Rattle.gs_calendar.proofs.Agree.{IsCalendar, Listens, HasMail, begun_listens, quiet_listens}
 use Rattle.gs_calendar.proofs.Arrivals.{Arrives, IsArrival, arrivals_to, place_is_inside}
 use Rattle.gs_calendar.proofs.Counting.{link_place_is}

@@ -8,7 +8,7 @@ use Rattle.gs_calendar.specs.Calendar.{ticks, turn}
 use Rattle.gs_calendar.specs.Course.{Course}
 use Rattle.gs_calendar.specs.Due.{due_by}
 use Rattle.gs_calendar.specs.Events.{deliveries_to}
-use Rattle.gs_calendar.specs.Feeds.{deliver_all}
+use Rattle.gs_calendar.specs.inside.Feeds.{deliver_all}
 use Rattle.gs_calendar.proofs.Fitting.{IsCourse}
 use Rattle.gs_calendar.proofs.Turns.{last_before}
 use Rattle.gs_seat.specs.Alone.{alone}

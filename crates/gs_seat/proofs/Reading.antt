@@ -18,8 +18,8 @@ use Rattle.gs_run.specs.Nets.{net_of}
 use Rattle.gs_run.specs.World.{Sent}
 use Rattle.gs_run.proofs.PlanNumbers.{plan_has_numbers}
 use Rattle.gs_calendar.specs.Course.{Course, course_of}
-use Rattle.gs_calendar.specs.Feeds.{IsReadFor}
-use Rattle.gs_calendar.specs.Transits.{Has}
+use Rattle.gs_calendar.specs.inside.Feeds.{IsReadFor}
+use Rattle.gs_calendar.specs.inside.Transits.{Has}
 use Rattle.gs_calendar.proofs.Arrivals.{neighbour_has_place, place_is_inside}
 use Rattle.gs_calendar.proofs.Fitting.{IsCourse, adjacent_said, fits, near}
 use Rattle.gs_calendar.proofs.OnTheWay.{neighbour_is, said_node}
@@ -27,7 +27,7 @@ use Rattle.gs_seat.specs.Held.{IsWindow}
 use Rattle.gs_seat.specs.Letters.{Letter, letters_by}
 use Rattle.gs_seat.specs.Seats.{IsSeatIn, wake_of}
 use Rattle.gs_seat.specs.Worlds.{Plays}
-use Rattle.gs_seat.specs.Turns.{IsTurn}
+use Rattle.gs_seat.specs.inside.Turns.{IsTurn}
 use Rattle.gs_seat.specs.declared.seat.Seat.{Seat}
 use Rattle.gs_seat.proofs.Turning.{turn_is}
 use Rattle.gs_seat.proofs.Windows.{letter_of, seat_begun, seat_ready, sent_few, sleeps_on}

@@ -14,7 +14,7 @@ use Rattle.gs_calendar.proofs.Turns.{last_before}
 use Rattle.gs_seat.specs.Alone.{hears, ticks_alone, CanHear, CanTick}
 use Rattle.gs_seat.specs.Letters.{Letter, letters_by}
 use Rattle.gs_seat.specs.Sleepers.{part_of, reading_at, IsAsleep, IsSetAs}
-use Rattle.gs_seat.specs.Turns.{IsTurn}
+use Rattle.gs_seat.specs.inside.Turns.{IsTurn}
 use Rattle.gs_seat.specs.Worlds.{part_at, part_begun, part_heard, WasSent}
 use Rattle.gs_seat.specs.declared.sleeper.Sleeper.{Sleeper}
 use Rattle.gs_seat.proofs.Turning.{world_agrees}

@@ -16,7 +16,7 @@ use Rattle.gs_run.proofs.Reaching.{IsKnown, reachable_is_known, start_is_reachab
 use Rattle.gs_calendar.specs.Calendar.{ticks, turn, sent_at, gives_next, given_seq}
 use Rattle.gs_calendar.specs.Course.{Course}
 use Rattle.gs_calendar.specs.Events.{nodes_of, events_upto, quantum_at, deliveries_to}
-use Rattle.gs_calendar.specs.Feeds.{deliver_all}
+use Rattle.gs_calendar.specs.inside.Feeds.{deliver_all}
 use Rattle.gs_calendar.specs.Scripts.{start_of}
 use Rattle.gs_calendar.specs.Stale.{breach_upto}
 use Rattle.gs_calendar.proofs.Agree.{IsCalendar, Listens, world_next, run_agrees, start_is_calendar, begun_listens, quiet_listens}
@@ -31,7 +31,7 @@ use Rattle.gs_calendar.proofs.Waiting.{AreSlow}
 use Rattle.gs_seat.specs.Alone.{AreCarried, CanRead, alone, quantum_alone}
 use Rattle.gs_seat.specs.Held.{IsHeld, IsWindow}
 use Rattle.gs_seat.specs.Letters.{Letter, keys, letters_by}
-use Rattle.gs_seat.specs.Turns.{IsTurn}
+use Rattle.gs_seat.specs.inside.Turns.{IsTurn}
 use Rattle.gs_seat.specs.Worlds.{world_of, part_at, part_begun, WasSent}
 use Rattle.gs_seat.proofs.Alone.{listened_is_alone, quantum_is_alone}
 use Rattle.gs_seat.proofs.Carried.{given_is_found}

@@ -12,8 +12,8 @@ use Rattle.gs_run.specs.World.{World, Sent, member, sent_by}
 use Rattle.gs_calendar.specs.Calendar.{sent_at, given_seq, turn}
 use Rattle.gs_calendar.specs.Course.{Course}
 use Rattle.gs_calendar.specs.Due.{Key, key_cmp}
-use Rattle.gs_calendar.specs.Feeds.{key_of}
-use Rattle.gs_calendar.specs.Transits.{Has}
+use Rattle.gs_calendar.specs.inside.Feeds.{key_of}
+use Rattle.gs_calendar.specs.inside.Transits.{Has}
 use Rattle.gs_calendar.proofs.Agree.{HasMail}
 use Rattle.gs_calendar.proofs.Fitting.{IsCourse}
 use Rattle.gs_calendar.proofs.OnTheWay.{is_neighbour, neighbour_is}

@@ -2,6 +2,6 @@ pub mod Letters
 pub mod Alone
 pub mod Worlds
 pub mod Held
-pub mod Turns
 pub mod Sleepers
 pub mod Seats
+pub mod inside

@@ -7,10 +7,10 @@ ghost use Rattle.gs_run.specs.Nets.{net_of};
 ghost use Rattle.gs_run.specs.World.{clock_in};
 ghost use Rattle.gs_script.specs.Script.{Said};
 ghost use Rattle.gs_calendar.specs.Course.{Course, course_of};
-ghost use Rattle.gs_calendar.specs.Feeds.{IsReadFor};
+ghost use Rattle.gs_calendar.specs.inside.Feeds.{IsReadFor};
 ghost use Rattle.gs_calendar.specs.Calendar.{heard_at};
 ghost use Rattle.gs_calendar.specs.Stale.{first_stale};
-ghost use Rattle.gs_calendar.specs.Transits.{Has};
+ghost use Rattle.gs_calendar.specs.inside.Transits.{Has};
 ghost use Rattle.gs_seat.specs.Worlds.{Plays, world_of};
 ghost use Rattle.gs_seat.specs.Held.{IsWindow, IsNext, AreSentIn, handed};
 

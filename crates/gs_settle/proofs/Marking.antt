@@ -32,7 +32,7 @@ use Rattle.gs_rows.proofs.Keeping.{rows_are}
 use Rattle.gs_rows.proofs.Reports.{script_fast}
 use Rattle.gs_rows.proofs.Staging.{ends_count}
 use Rattle.gs_settle.specs.Plays.{AreInTime, PlaySettles, fast_from_gamma, first_clock, first_clocks, last_above, last_of_level, last_upto, rows_from_gamma}
-use Rattle.gs_settle.specs.Running.{AreMarked, marked}
+use Rattle.gs_settle.specs.inside.Running.{AreMarked, marked}
 use Rattle.gs_settle.specs.Times.{AreSettled, level_time}
 use Rattle.gs_settle.proofs.Holding.{row_settled}
 

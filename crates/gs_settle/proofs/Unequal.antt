@@ -12,8 +12,7 @@ use Rattle.gs_topo.specs.Walks.{IsWalk}
 use Rattle.gs_estimate.proofs.Closeness.{growth-splits}
 use Rattle.gs_maximum.specs.Lag.{Tells}
 use Rattle.gs_maximum.proofs.Telling.{earlier_is_told, lag_per_hop}
-use Rattle.gs_trigger.specs.Sights.{Sight}
-use Rattle.gs_trigger.specs.Triggers.{FastAt}
+use Rattle.gs_trigger.specs.Triggers.{Sight, FastAt}
 use Rattle.gs_trigger.proofs.Apart.{not_fast_in_front}
 use Rattle.gs_steer.proofs.Deciding.{fast_far_behind, slow_near_maximum}
 use Rattle.gs_skew.proofs.Extremes.{greatest_below}

@@ -1,4 +1,4 @@
 pub mod Times
 pub mod Laws
 pub mod Plays
-pub mod Running
+pub mod inside

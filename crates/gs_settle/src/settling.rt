@@ -4,7 +4,7 @@ ghost use Rattle.gs_calendar.specs.Scripts.{breach_of_script};
 ghost use Rattle.gs_calendar.specs.Stops.{StopsAt};
 ghost use Rattle.gs_settle.specs.Plays.{AreInTime, PlaySettles, fast_from_gamma, first_clock, first_clocks};
 ghost use Rattle.gs_settle.specs.Plays.{last_upto, rows_from_gamma};
-ghost use Rattle.gs_settle.specs.Running.{AreMarked, marked};
+ghost use Rattle.gs_settle.specs.inside.Running.{AreMarked, marked};
 ghost use Rattle.gs_settle.specs.Times.{times_of};
 
 use crate::timing::times;

@@ -5,7 +5,7 @@ use Rattle.std.proofs.lemmas.Bool.{cases_lt}
 use Rattle.std.proofs.lemmas.Grind.{div_ceil_times}
 use Rattle.std.specs.Int.{div_ceil}
 use Rattle.gs_topo.specs.Weights.{Weighs}
-use Rattle.gs_units.specs.Levels.{bound_at}
+use Rattle.gs_units.specs.Rates.{bound_at}
 use Rattle.gs_skew.specs.Rows.{AreRows}
 use Rattle.gs_skew.proofs.Levels.{Keeps, level_step}
 

@@ -1,7 +1,7 @@
 -- The bounds of the levels over rows of clocks: G(s) is that of the plans, with G(0) the bound of all differences.
 use Rattle.std.specs.Prelude.{ℕ, Bool, IsTrue, ◌+◌, ◌*◌, ◌/◌, ◌<◌, ◌≤◌}
 use Rattle.gs_topo.specs.Weights.{Weighs}
-use Rattle.gs_units.specs.Levels.{bound_at}
+use Rattle.gs_units.specs.Rates.{bound_at}
 use Rattle.gs_skew.specs.Rows.{AreRows}
 
 -- a network whose clocks are steered from an equal start

@@ -4,7 +4,7 @@ use Rattle.std.proofs.lemmas.Bool.Decides.{nat_tests}
 use Rattle.gs_clock.specs.Readings.{Reads, first_of, rest_of}
 use Rattle.gs_stamp_run.specs.Lines.{IsCut}
 use Rattle.gs_stamp_run.specs.Issued.{AreFirst, issued}
-use Rattle.gs_stamp_run.specs.Turns.{Onward}
+use Rattle.gs_stamp_run.specs.inside.Turns.{Onward}
 use Rattle.gs_cli.specs.declared.status.Status.{Status}
 use Rattle.gs_cli.specs.declared.status.Status.TheVariants.{Done, StampEnd, WriteFault}
 

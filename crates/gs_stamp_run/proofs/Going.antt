@@ -7,7 +7,7 @@ use Rattle.gs_stamp.specs.Restarts.{AllBelow}
 use Rattle.gs_stamp.proofs.Rising.{then_rise}
 use Rattle.gs_stamp_run.specs.Lines.{IsCut, Wrote, line_of, lines, status_line}
 use Rattle.gs_stamp_run.specs.Runs.{Ran, Went}
-use Rattle.gs_stamp_run.specs.Turns.{Far}
+use Rattle.gs_stamp_run.specs.inside.Turns.{Far}
 use Rattle.gs_cli.specs.declared.status.Status.{Status}
 use Rattle.gs_clock.specs.Readings.{first_of, rest_of}
 use Rattle.gs_cli.specs.declared.status.Status.TheVariants.{Done, StampEnd, WriteFault}

@@ -1,5 +1,5 @@
 pub mod Issued
 pub mod Lines
 pub mod Runs
-pub mod Turns
 pub mod Words
+pub mod inside

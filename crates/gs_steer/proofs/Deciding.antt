@@ -1,8 +1,7 @@
 -- Each trigger alone decides the mode, and iota where neither holds.
 use Rattle.std.proofs.Common.{◌≡◌, ℕ, ◌-◌, ◌≤◌, List, arith, Bool, true, false, is_some, nat_le, refl, if◌then◌else◌}
 use Rattle.gs_units.specs.declared.rate.Mode.TheVariants.{Slow, Fast}
-use Rattle.gs_trigger.specs.Sights.{Sight}
-use Rattle.gs_trigger.specs.Triggers.{FastAt, SlowAt, fast_level, slow_level}
+use Rattle.gs_trigger.specs.Triggers.{Sight, FastAt, SlowAt, fast_level, slow_level}
 use Rattle.gs_trigger.proofs.Exact.{fast_level-some, slow_level-some, fast_level-none, slow_level-none}
 use Rattle.gs_trigger.proofs.Apart.{never_both}
 use Rattle.gs_steer.specs.Modes.{following_mode, mode_of}

@@ -1,8 +1,7 @@
 -- The laws of the mode.
 use Rattle.std.specs.Prelude.{◌≡◌, ℕ, ◌-◌, ◌<◌, ◌≤◌, List}
 use Rattle.gs_units.specs.declared.rate.Mode.TheVariants.{Slow, Fast}
-use Rattle.gs_trigger.specs.Sights.{Sight, HaveMargins}
-use Rattle.gs_trigger.specs.Triggers.{FastAt, SlowAt}
+use Rattle.gs_trigger.specs.Triggers.{Sight, HaveMargins, FastAt, SlowAt}
 use Rattle.gs_steer.specs.Modes.{mode_of}
 
 -- the fast trigger makes a node fast, wherever the maximum is

@@ -2,8 +2,7 @@
 use Rattle.std.specs.Prelude.{ℕ, ◌-◌, List, if◌then◌else◌, is_some, nat_le}
 use Rattle.gs_units.specs.declared.rate.Mode.{Mode}
 use Rattle.gs_units.specs.declared.rate.Mode.TheVariants.{Slow, Fast}
-use Rattle.gs_trigger.specs.Sights.{Sight}
-use Rattle.gs_trigger.specs.Triggers.{fast_level, slow_level}
+use Rattle.gs_trigger.specs.Triggers.{Sight, fast_level, slow_level}
 
 -- the mode that the maximum m and the clock l decide where neither trigger holds
 abbrev pub following_mode : ℕ → ℕ → ℕ → Mode

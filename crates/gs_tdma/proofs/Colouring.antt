@@ -5,7 +5,7 @@ use Rattle.std.proofs.lemmas.Bool.{cases_lt}
 use Rattle.std.proofs.lemmas.List.{get_or_append_left}
 use Rattle.gs_topo.specs.Graph.{Graph}
 use Rattle.gs_topo.specs.Walks.{distance_of}
-use Rattle.gs_tdma.specs.Kept.{AreLow, IsFree, IsTaken}
+use Rattle.gs_tdma.specs.inside.Kept.{AreLow, IsFree, IsTaken}
 use Rattle.gs_tdma.specs.Slots.{AreColours}
 
 -- what was there stays

@@ -15,7 +15,7 @@ use Rattle.gs_calendar.specs.declared.stop.PlayStop.{PlayStop}
 use Rattle.gs_rows.specs.Row.{Row, clock_at, row_at, rows_of_script, zeros_of}
 use Rattle.gs_rows.specs.Stage.{IsOver, Stage, row_now}
 use Rattle.gs_rows.proofs.Keeping.{script_is_steady}
-use Rattle.gs_tdma.specs.Kept.{AreCounted, AreSent, with_clock}
+use Rattle.gs_tdma.specs.inside.Kept.{AreCounted, AreSent, with_clock}
 use Rattle.gs_tdma.specs.Laws.{NeverCollide}
 use Rattle.gs_tdma.specs.Slots.{AreSlots, Slots, sends, sent_of, sent_upto}
 use Rattle.gs_tdma.proofs.Guarding.{none_collide}

@@ -2,4 +2,4 @@ pub mod Near
 pub mod Slots
 pub mod Laws
 pub mod Faults
-pub mod Kept
+pub mod inside

@@ -1,5 +1,5 @@
 ghost use Rattle.std.specs.Prelude.{◌≡◌, ◌+◌, ◌<◌, ◌≤◌, ℕ, false, length, max, true, IfOk};
-ghost use Rattle.gs_tdma.specs.Kept.{AreLow, IsFree, IsTaken};
+ghost use Rattle.gs_tdma.specs.inside.Kept.{AreLow, IsFree, IsTaken};
 ghost use Rattle.gs_tdma.specs.Slots.{AreColours, count_of};
 
 use gs_topo::Topology;

@@ -2,7 +2,7 @@ ghost use Rattle.std.specs.Prelude.{◌≡◌, ◌+◌, ◌<◌, ◌≤◌, ◌^
 ghost use Rattle.gs_plan.specs.Plans.{text_of};
 ghost use Rattle.gs_calendar.specs.Scripts.{breach_of_script};
 ghost use Rattle.gs_calendar.specs.Stops.{StopsAt};
-ghost use Rattle.gs_tdma.specs.Kept.{AreCounted, with_clock};
+ghost use Rattle.gs_tdma.specs.inside.Kept.{AreCounted, with_clock};
 ghost use Rattle.gs_tdma.specs.Laws.{NeverCollide};
 ghost use Rattle.gs_tdma.specs.Slots.{AreSlots, sent_of};
 

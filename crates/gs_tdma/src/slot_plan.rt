@@ -28,7 +28,7 @@ impl Model for SlotPlan {
 
     ghost Value = { Slots };
 
-    ghost use Rattle.gs_tdma.specs.Kept.{AreKept};
+    ghost use Rattle.gs_tdma.specs.inside.Kept.{AreKept};
 
     ghost view = { λ a. record { reach = a.reach; slot = a.slot; guard = a.guard; colours = a.colours.items } };
 

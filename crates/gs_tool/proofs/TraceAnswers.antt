@@ -16,7 +16,7 @@ use Rattle.gs_audit.specs.declared.verdict.NodeVerdict.{NodeVerdict}
 use Rattle.gs_audit.specs.declared.verdict.Verdict.{Verdict}
 use Rattle.gs_audit.specs.declared.verdict.Verdict.TheVariants as world
 use Rattle.gs_cli.specs.Answers.{Answer}
-use Rattle.gs_tool.specs.AuditSeen.{HasLevels}
+use Rattle.gs_tool.specs.inside.AuditSeen.{HasLevels}
 use Rattle.gs_tool.specs.Audited.{IsAudited, IsReplayOf, audit_answer, replay_answer, trace_refused}
 
 -- a report that keeps its bounds tells all levels

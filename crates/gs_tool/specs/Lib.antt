@@ -1,13 +1,11 @@
 pub mod Audited
 pub mod AuditHeadline
-pub mod AuditSeen
 pub mod AuditsComplete
 pub mod Commands
 pub mod Completeness
 pub mod Generated
 pub mod Headline
 pub mod Inputs
-pub mod Meaning
 pub mod PlanTexts
 pub mod Orders
 pub mod OrdersAgree
@@ -16,7 +14,7 @@ pub mod Runs
 pub mod Scripts
 pub mod Settled
 pub mod Slotted
-pub mod SourceSeen
 pub mod Sources
 pub mod TraceInputs
 pub mod Traced
+pub mod inside

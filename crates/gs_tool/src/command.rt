@@ -2,7 +2,7 @@ ghost use Rattle.std.specs.Prelude.{◌≡◌, map, string_bytes, Some, None, If
 ghost use Rattle.gs_tool.specs.Commands.{command_of, part_of, plan_args, play_args, trace_args};
 ghost use Rattle.gs_tool.specs.Commands.{audit_args, replay_args, gen_args, migrate_args, settle_args, slots_args};
 ghost use Rattle.gs_tool.specs.Commands.{order_args};
-ghost use Rattle.gs_tool.specs.Meaning.{meaning};
+ghost use Rattle.gs_tool.specs.inside.Meaning.{meaning};
 
 use gs_cli::number_within;
 

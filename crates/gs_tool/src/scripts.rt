@@ -7,8 +7,8 @@ ghost use Rattle.gs_script.specs.Faults.{why_of};
 ghost use Rattle.gs_script.specs.Reading.{script_of};
 ghost use Rattle.gs_cli.specs.Words.{number_within};
 ghost use Rattle.gs_tool.specs.Scripts.{said_from, script_in, script_refused, steady_from};
-ghost use Rattle.gs_tool.specs.SourceSeen.{source_in};
-ghost use Rattle.gs_cli.specs.Stops.{StopsAt, StopsWith};
+ghost use Rattle.gs_tool.specs.inside.SourceSeen.{source_in};
+ghost use Rattle.gs_cli.specs.inside.Stops.{StopsAt, StopsWith};
 
 use crate::source::Source;
 use gs_cli::{Status, Stop, number_within};

@@ -1,17 +1,17 @@
 ghost use Rattle.std.specs.Prelude.{◌≡◌, ◌≤◌, ◌⊎◌, map, string_bytes, true, false, Some, None, IsOk, IfOk};
 ghost use Rattle.gs_tool.specs.Commands.{IsInRange, command_of, is_trace};
-ghost use Rattle.gs_tool.specs.Meaning.{meaning};
+ghost use Rattle.gs_tool.specs.inside.Meaning.{meaning};
 ghost use Rattle.gs_tool.specs.Completeness.{Completes};
 ghost use Rattle.gs_tool.specs.AuditHeadline.{AuditsKeepBounds};
 ghost use Rattle.gs_tool.specs.AuditsComplete.{AuditsComplete};
 ghost use Rattle.gs_tool.specs.Headline.{PlaysKeepBounds};
 ghost use Rattle.gs_tool.specs.OrdersAgree.{OrdersAgree};
-ghost use Rattle.gs_cli.specs.Reply.{answer_in};
+ghost use Rattle.gs_cli.specs.inside.Reply.{answer_in};
 ghost use Rattle.gs_tool.specs.Inputs.{IsAnswerOn, IsAnswerOver};
 ghost use Rattle.gs_tool.specs.Runs.{IsAnswer, IsCommandAnswer, IsMigrated, IsPlanned, IsTold, played};
 ghost use Rattle.gs_tool.specs.Runs.{Runs, names_no_file};
 ghost use Rattle.gs_tool.specs.Sources.{are_built_in, is_built_in, seen};
-ghost use Rattle.gs_cli.specs.Stops.{EndsWith};
+ghost use Rattle.gs_cli.specs.inside.Stops.{EndsWith};
 
 use crate::answers::{migrated, planned, played};
 use crate::audited::{audit_answer, replay_answer};

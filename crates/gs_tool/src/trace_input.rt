@@ -5,7 +5,7 @@ ghost use Rattle.std.specs.Prelude.{IfOk, IfErr};
 ghost use Rattle.gs_tool.specs.Inputs.{IsPlan};
 ghost use Rattle.gs_tool.specs.Sources.{seen};
 ghost use Rattle.gs_tool.specs.TraceInputs.{AreNoTraceInputs, IsTrace};
-ghost use Rattle.gs_cli.specs.Stops.{StopsWith};
+ghost use Rattle.gs_cli.specs.inside.Stops.{StopsWith};
 
 use crate::plans::plan_in;
 use crate::source::{Kind, read_file, read_source};

@@ -5,7 +5,7 @@ use Rattle.std.proofs.lemmas.Bool.{cases_eq, eq-eqb, ne_eqb, or_right, or_left, 
 use Rattle.gs_topo.specs.declared.fault.TopoFault.{TopoFault}
 use Rattle.gs_topo.specs.Faults.{edge_fault, edges_fault}
 use Rattle.gs_topo.specs.Graph.{joined, joins}
-use Rattle.gs_topo.specs.Kept.{HasFlags, flag_at}
+use Rattle.gs_topo.specs.inside.Kept.{HasFlags, flag_at}
 
 -- The steps of the loop over the edges.
 pub edges_fault-end : (n i : ℕ) (es : List (ℕ × ℕ)) → length es ≤ i → edges_fault n (take i es) i (drop i es) ≡ None

@@ -8,11 +8,11 @@ use Rattle.std.proofs.lemmas.List.{get_or_append_left}
 use Rattle.std.proofs.lemmas.List.Sums.{fails_before_first}
 use Rattle.std.proofs.lemmas.List.FromFn.{length-map-range_with_len, get_or-map-range_with_len}
 use Rattle.gs_topo.specs.Graph.{adjacent, Adjacent, joins, neighbours_of, number_of}
-use Rattle.gs_topo.specs.Search.{AreSteps, AreSums, far_sum, steps_over}
+use Rattle.gs_topo.specs.inside.Search.{AreSteps, AreSums, far_sum, steps_over}
 use Rattle.gs_topo.specs.declared.steps.Step.{Step}
 use Rattle.gs_topo.specs.Walks.{IsGraph, IsLeast, IsWalk, length_of, one_each, distance_of}
 use Rattle.gs_topo.specs.Weights.{Lengths, length_between}
-use Rattle.gs_topo.specs.Weighted.{AreRows}
+use Rattle.gs_topo.specs.inside.Weighted.{AreRows}
 use Rattle.gs_topo.proofs.Members.{member-from_list_any}
 use Rattle.gs_topo.proofs.Walks.{below_walks, sum_is_small, sum_of_equal}
 use Rattle.gs_topo.proofs.Distances.{is_least, is_below}

@@ -4,7 +4,7 @@ use Rattle.std.proofs.lemmas.List.{drop_more, get_or_read}
 use Rattle.std.proofs.lemmas.List.Elements.{All-head, All-map}
 use Rattle.std.proofs.lemmas.List.FromFn.{length-map-range_with_len, get_or-map-range_with_len}
 use Rattle.gs_topo.specs.Graph.{Graph, adjacent, neighbours_of}
-use Rattle.gs_topo.specs.Search.{Trial, AreBelow, AreInside, AreSums, all_reached, far_level, steps_over}
+use Rattle.gs_topo.specs.inside.Search.{Trial, AreBelow, AreInside, AreSums, all_reached, far_level, steps_over}
 use Rattle.gs_topo.specs.Walks.{one_each}
 use Rattle.gs_topo.specs.declared.steps.Step.{Step}
 use Rattle.gs_topo.proofs.Relaxing.{IsTried, all_behind, are_reached, rest_of}

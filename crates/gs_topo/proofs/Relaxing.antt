@@ -6,7 +6,7 @@ use Rattle.std.proofs.lemmas.List.Elements.{All-head, All-tail, Contains-append_
 use Rattle.std.proofs.lemmas.List.{drop-append-le, length_push}
 use Rattle.std.proofs.lemmas.Bool.{eq-eqb, ltb-true, ltb-false, cases_eq}
 use Rattle.gs_topo.proofs.Members.{none, only}
-use Rattle.gs_topo.specs.Search.{Trial, reached, all_reached, tried, all_tried, far_sum, steps_over, AreInside}
+use Rattle.gs_topo.specs.inside.Search.{Trial, reached, all_reached, tried, all_tried, far_sum, steps_over, AreInside}
 use Rattle.gs_topo.specs.declared.steps.Step.{Step}
 
 -- What the tries of a search leave.

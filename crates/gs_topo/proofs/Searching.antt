@@ -7,7 +7,7 @@ use Rattle.std.specs.List.Sorted.{IsPermutation}
 use Rattle.std.proofs.lemmas.List.Sorted.{Contains-permutation, IsPermutation-sym}
 use Rattle.std.proofs.lemmas.Bool.{cases_eq, cases_lt}
 use Rattle.gs_topo.specs.Walks.{IsWalk, length_of}
-use Rattle.gs_topo.specs.Search.{Trial, steps_over, AreSums, AreInside}
+use Rattle.gs_topo.specs.inside.Search.{Trial, steps_over, AreSums, AreInside}
 use Rattle.gs_topo.specs.declared.steps.Step.{Step}
 use Rattle.gs_topo.proofs.Walks.{walk_append, length_of-append}
 use Rattle.gs_topo.proofs.Relaxing.{IsTried, IsOrdered, still_ordered}

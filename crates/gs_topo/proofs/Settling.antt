@@ -4,7 +4,7 @@ use Rattle.std.specs.List.{swap_remove}
 use Rattle.std.proofs.lemmas.List.{get_or_read}
 use Rattle.std.proofs.lemmas.List.Elements.{All-contains, All-head}
 use Rattle.std.proofs.lemmas.List.Sorted.{Contains-permutation, IsPermutation-swap_remove, IsPermutation-sym, length_permutation}
-use Rattle.gs_topo.specs.Search.{Trial, AreInside, AreSteps, all_tried, far_sum}
+use Rattle.gs_topo.specs.inside.Search.{Trial, AreInside, AreSteps, all_tried, far_sum}
 use Rattle.gs_topo.specs.declared.steps.Step.{Step}
 use Rattle.gs_topo.proofs.Members.{tail_member}
 use Rattle.gs_topo.proofs.Relaxing.{IsTried, IsOrdered, are_tried}

@@ -14,8 +14,8 @@ use Rattle.gs_topo.specs.declared.fault.TopoFault.TheVariants.{Node, Loop, Doubl
 use Rattle.gs_topo.specs.declared.steps.Step.{Step}
 use Rattle.gs_topo.specs.Faults.{edge_fault, edges_fault, split_fault, fault_of}
 use Rattle.gs_topo.specs.Graph.{Graph, IsBefore, joins, joined, adjacent, Adjacent, neighbours_of, pairs_below, graph_of}
-use Rattle.gs_topo.specs.Kept.{HasFlags, flag_at}
-use Rattle.gs_topo.specs.Search.{AreBelow, AreSteps, AreSums, AreInside, steps_over, far_level}
+use Rattle.gs_topo.specs.inside.Kept.{HasFlags, flag_at}
+use Rattle.gs_topo.specs.inside.Search.{AreBelow, AreSteps, AreSums, AreInside, steps_over, far_level}
 use Rattle.gs_topo.specs.Walks.{IsWalk, IsGraph, IsSplitAt, one_each, reaches}
 use Rattle.gs_topo.proofs.Members.{Contains-map, member-from_list_any, range_below}
 use Rattle.gs_topo.proofs.Walks.{walk_append, turned, below_walks}

@@ -6,7 +6,7 @@ use Rattle.std.proofs.lemmas.Nat.{mul-add-lt}
 use Rattle.std.proofs.lemmas.List.FromFn.{fill_by_all, length-map-range_with_len, get_or-map-range_with_len}
 use Rattle.gs_topo.specs.Graph.{Graph, adjacent, Adjacent, neighbours_of}
 use Rattle.gs_topo.specs.Walks.{IsGraph, one_each, distance_of, distances_of, diameter_of}
-use Rattle.gs_topo.specs.Search.{AreLevels, AreSteps, AreSums, Searched, far_level, far_sum}
+use Rattle.gs_topo.specs.inside.Search.{AreLevels, AreSteps, AreSums, Searched, far_level, far_sum}
 use Rattle.gs_topo.specs.declared.steps.Step.{Step}
 use Rattle.gs_topo.proofs.Walks.{below_walks}
 use Rattle.gs_topo.proofs.Distances.{is_least, is_below}

@@ -3,7 +3,5 @@ pub mod Walks
 pub mod Faults
 pub mod Weights
 pub mod Laws
-pub mod Kept
-pub mod Search
-pub mod Weighted
 pub mod Words
+pub mod inside

@@ -2,7 +2,7 @@ ghost use Rattle.std.specs.Prelude.{◌≡◌, ◌+◌, ◌-◌, ◌*◌, ◌<�
 ghost use Rattle.std.specs.Prelude.{[], ◌∷◌, ◌++◌, filter, length, map};
 ghost use Rattle.std.specs.List.{range_with_len};
 ghost use Rattle.gs_topo.specs.Graph.{pairs_below};
-ghost use Rattle.gs_topo.specs.Kept.{flag_at};
+ghost use Rattle.gs_topo.specs.inside.Kept.{flag_at};
 
 use crate::flags::is_flagged;
 use crate::lists::Nodes;

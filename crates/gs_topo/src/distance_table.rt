@@ -1,6 +1,6 @@
 ghost use Rattle.std.specs.Prelude.{◌≡◌, ◌≤◌, IfOk, fold, length, max};
-ghost use Rattle.gs_topo.specs.Search.{AreBelow};
-ghost use Rattle.gs_topo.specs.Kept.{IsTableOf};
+ghost use Rattle.gs_topo.specs.inside.Search.{AreBelow};
+ghost use Rattle.gs_topo.specs.inside.Kept.{IsTableOf};
 
 use crate::levels::levels_from;
 use crate::lists::Nodes;

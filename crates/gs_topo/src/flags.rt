@@ -2,7 +2,7 @@ ghost use Rattle.std.specs.Prelude.{◌≡◌, ◌≢◌, ◌*◌, ◌<◌, ◌�
 ghost use Rattle.std.specs.Prelude.{IfErr, IfNone, IfOk, None, Some};
 ghost use Rattle.gs_topo.specs.Faults.{edge_fault, edges_fault};
 ghost use Rattle.gs_topo.specs.Graph.{joined, joins};
-ghost use Rattle.gs_topo.specs.Kept.{HasFlags, flag_at};
+ghost use Rattle.gs_topo.specs.inside.Kept.{HasFlags, flag_at};
 
 use crate::fault::TopoFault;
 use std::alloc::Global;

@@ -1,6 +1,6 @@
 ghost use Rattle.std.specs.Prelude.{◌≡◌, ◌≢◌, ◌+◌, ◌<◌, ◌≤◌, ℕ, IfNone, IfOk, IfSome, All, List, length};
 ghost use Rattle.std.specs.Prelude.{slice_index, vec_len};
-ghost use Rattle.gs_topo.specs.Search.{AreBelow, AreLevels, all_reached, far_level};
+ghost use Rattle.gs_topo.specs.inside.Search.{AreBelow, AreLevels, all_reached, far_level};
 
 use crate::lists::Nodes;
 use std::alloc::{AllocError, Global};

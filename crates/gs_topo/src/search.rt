@@ -1,6 +1,6 @@
 ghost use Rattle.std.specs.Prelude.{◌≡◌, ◌+◌, ◌*◌, ◌<◌, ◌≤◌, ◌^◌, ℕ, IfOk};
 ghost use Rattle.std.specs.Prelude.{All, List, length, slice_index, vec_len};
-ghost use Rattle.gs_topo.specs.Search.{AreInside, Searched, all_tried, far_sum};
+ghost use Rattle.gs_topo.specs.inside.Search.{AreInside, Searched, all_tried, far_sum};
 
 use crate::build::push_if;
 use crate::steps::{Step, Steps};

@@ -37,7 +37,7 @@ impl Model for Topology {
 
     ghost Value = { Graph };
 
-    ghost use Rattle.gs_topo.specs.Kept.{AreKept};
+    ghost use Rattle.gs_topo.specs.inside.Kept.{AreKept};
 
     ghost view = { λ a. record { nodes = a.nodes; edges = a.edges.items } };
 

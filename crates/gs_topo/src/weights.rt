@@ -3,8 +3,8 @@ ghost use Rattle.std.specs.List.{range_with_len};
 ghost use Rattle.gs_topo.specs.Graph.{Adjacent, Graph, neighbours_of};
 ghost use Rattle.gs_topo.specs.Walks.{IsLeast};
 ghost use Rattle.gs_topo.specs.Weights.{Lengths, length_between};
-ghost use Rattle.gs_topo.specs.Search.{steps_over};
-ghost use Rattle.gs_topo.specs.Weighted.{AreRows, AreWeights};
+ghost use Rattle.gs_topo.specs.inside.Search.{steps_over};
+ghost use Rattle.gs_topo.specs.inside.Weighted.{AreRows, AreWeights};
 
 use crate::search::sums_from;
 use crate::steps::{Step, Steps};
@@ -37,7 +37,7 @@ impl Model for Weights {
 
     ghost Value = { Lengths };
 
-    ghost use Rattle.gs_topo.specs.Weighted.{AreWeights};
+    ghost use Rattle.gs_topo.specs.inside.Weighted.{AreWeights};
 
     ghost view = { λ a. record {
       graph = record { nodes = a.nodes; edges = a.edges.items };

@@ -4,7 +4,7 @@ use Rattle.std.specs.Prelude.{slice_index}
 use Rattle.std.proofs.lemmas.List.{take_rest}
 use Rattle.gs_beacon.specs.Numbers.{AreBytes}
 use Rattle.gs_trace.specs.Formats.{Format, fault_from, events_from}
-use Rattle.gs_trace.specs.Fronts.{BeginsWhole}
+use Rattle.gs_trace.specs.inside.Fronts.{BeginsWhole}
 use Rattle.gs_trace.proofs.Choices.{same_size}
 use Rattle.gs_trace.proofs.EventsInTurn.{IsFormat, events-front, fault-moves, whole-front}
 

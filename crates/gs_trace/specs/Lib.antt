@@ -6,8 +6,8 @@ pub mod Nodes
 pub mod Scans
 pub mod Seen
 pub mod NodeSeen
-pub mod Fronts
 pub mod Firsts
 pub mod Reads
 pub mod Words
 pub mod Laws
+pub mod inside

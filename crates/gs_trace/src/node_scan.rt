@@ -4,7 +4,7 @@ ghost use Rattle.gs_beacon.specs.Beacons.{beacon_at, fault_of};
 ghost use Rattle.gs_core.specs.declared.event.NodeEvent.{NodeEvent};
 ghost use Rattle.gs_trace.specs.Formats.{fault_from, front_fault};
 ghost use Rattle.gs_trace.specs.Nodes.{event_of, Fits, head_fault, is_refused, node_fault, node_format, size_of, SpellsNode, start_at};
-ghost use Rattle.gs_trace.specs.Fronts.{BeginsWhole};
+ghost use Rattle.gs_trace.specs.inside.Fronts.{BeginsWhole};
 ghost use Rattle.gs_trace.specs.declared.fault.TraceFault.{TraceFault};
 ghost use Rattle.gs_trace.specs.declared.start.NodeStart.{NodeStart};
 

@@ -4,7 +4,7 @@ ghost use Rattle.gs_trace.specs.Formats.{fault_from, front_fault};
 ghost use Rattle.gs_trace.specs.Scans.{event_told, KeepsIncs};
 ghost use Rattle.gs_trace.specs.Worlds.{event_of, size_of, SpellsWorld, world_fault, world_format};
 ghost use Rattle.gs_core.specs.declared.event.Event.{Event};
-ghost use Rattle.gs_trace.specs.Fronts.{BeginsWhole};
+ghost use Rattle.gs_trace.specs.inside.Fronts.{BeginsWhole};
 ghost use Rattle.gs_trace.specs.Reads.{FailsWith, Reads};
 ghost use Rattle.gs_trace.specs.declared.fault.TraceFault.{TraceFault};
 ghost use Rattle.gs_trace.specs.declared.start.WorldStart.{WorldStart};

@@ -5,8 +5,8 @@ use Rattle.std.proofs.lemmas.Int.{ints}
 use Rattle.std.proofs.lemmas.List.Elements.{All-nil, All-cons, All-head, All-tail}
 use Rattle.gs_units.specs.declared.params.Link.{Link}
 use Rattle.gs_units.specs.Params.{HasMargin}
-use Rattle.gs_trigger.specs.Sights.{Sight, HaveMargins}
-use Rattle.gs_trigger.specs.Sides.{Reaches, TriggerAt, IsLowestAllowed}
+use Rattle.gs_trigger.specs.Triggers.{Sight, HaveMargins}
+use Rattle.gs_trigger.specs.inside.Sides.{Reaches, TriggerAt, IsLowestAllowed}
 use Rattle.gs_trigger.specs.declared.trigger.Trigger.{Trigger}
 use Rattle.gs_trigger.specs.declared.trigger.Trigger.TheVariants.{Fast, Slow}
 use Rattle.gs_trigger.proofs.Distances.{distance-grows}

@@ -4,7 +4,7 @@ use Rattle.std.proofs.Math.Nat.{mul-le-mul_right, add-mul}
 use Rattle.std.proofs.lemmas.Grind.{div_ceil_times}
 use Rattle.std.specs.Int.{div_ceil}
 use Rattle.gs_trigger.specs.Triggers.{odd_level, even_level}
-use Rattle.gs_trigger.specs.Sides.{distance_of}
+use Rattle.gs_trigger.specs.inside.Sides.{distance_of}
 use Rattle.gs_trigger.specs.declared.trigger.Trigger.{Trigger}
 use Rattle.gs_trigger.specs.declared.trigger.Trigger.TheVariants.{Fast, Slow}
 

@@ -3,9 +3,9 @@ use Rattle.std.proofs.Common.{◌≡◌, ℕ, ℤ, pos, negsuc, nat_abs, ◌≤�
 use Rattle.std.proofs.Math.Nat.{mul-le-mul_right, add-mul, le-div_iff_mul-le}
 use Rattle.std.proofs.lemmas.Int.{ints}
 use Rattle.std.proofs.lemmas.List.Sums.{get_or-le-sum_by}
-use Rattle.gs_trigger.specs.Sights.{Sight, HaveMargins}
+use Rattle.gs_trigger.specs.Triggers.{Sight, HaveMargins}
 use Rattle.gs_trigger.specs.Triggers.{odd_level, even_level, FastAt, SlowAt, highest, fast_level, slow_level}
-use Rattle.gs_trigger.specs.Sides.{Reaches, TriggerAt, trigger_at, trigger_level}
+use Rattle.gs_trigger.specs.inside.Sides.{Reaches, TriggerAt, trigger_at, trigger_level}
 use Rattle.gs_trigger.specs.declared.trigger.Trigger.{Trigger}
 use Rattle.gs_trigger.specs.declared.trigger.Trigger.TheVariants.{Fast, Slow}
 use Rattle.gs_trigger.proofs.Search.{least_from-first, least_from-some, least_from-none}

@@ -2,7 +2,7 @@
 use Rattle.std.proofs.Common.{ℕ, ℤ, pos, neg_ℤ, ◌≤ℤ◌, ◌+◌, arith}
 use Rattle.std.proofs.lemmas.Int.{ints}
 use Rattle.gs_units.specs.declared.params.Link.{Link}
-use Rattle.gs_trigger.specs.Sides.{distance_of, lead_of, Allows}
+use Rattle.gs_trigger.specs.inside.Sides.{distance_of, lead_of, Allows}
 use Rattle.gs_trigger.specs.declared.trigger.Trigger.{Trigger}
 use Rattle.gs_trigger.specs.declared.trigger.Trigger.TheVariants.{Fast, Slow}
 

@@ -3,8 +3,8 @@ use Rattle.std.proofs.Common.{◌≡◌, ℕ, ℤ, zero, suc, ◌<◌, ◌≤◌
 use Rattle.std.proofs.lemmas.List.Elements.{All-cons, All-head, All-tail, All-nil}
 use Rattle.std.specs.List.{zip}
 use Rattle.gs_units.specs.declared.params.Link.{Link}
-use Rattle.gs_trigger.specs.Sights.{Sight}
-use Rattle.gs_trigger.specs.Sides.{Reaches, Allows, IsLowestAllowed}
+use Rattle.gs_trigger.specs.Triggers.{Sight}
+use Rattle.gs_trigger.specs.inside.Sides.{Reaches, Allows, IsLowestAllowed}
 use Rattle.gs_trigger.specs.declared.trigger.Trigger.{Trigger}
 
 -- s is the least level that all neighbours but the rest allow

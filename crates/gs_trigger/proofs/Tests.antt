@@ -7,8 +7,8 @@ use Rattle.std.proofs.lemmas.Bool.{and_parts}
 use Rattle.std.proofs.lemmas.Int.{ints}
 use Rattle.std.proofs.lemmas.List.Sums.{AllPass-from_list_all, list_all-from_AllPass}
 use Rattle.std.proofs.lemmas.List.Folds.{Any-from_list_any, list_any-from_Any}
-use Rattle.gs_trigger.specs.Sights.{Sight}
-use Rattle.gs_trigger.specs.Sides.{Reaches, Allows, TriggerAt, reaches, allows, trigger_at}
+use Rattle.gs_trigger.specs.Triggers.{Sight}
+use Rattle.gs_trigger.specs.inside.Sides.{Reaches, Allows, TriggerAt, reaches, allows, trigger_at}
 use Rattle.gs_trigger.specs.declared.trigger.Trigger.{Trigger}
 use Rattle.gs_trigger.specs.declared.trigger.Trigger.TheVariants.{Fast, Slow}
 

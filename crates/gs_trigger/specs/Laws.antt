@@ -1,7 +1,6 @@
 -- The laws of the triggers.
 use Rattle.std.specs.Prelude.{ℕ, pos, neg_ℤ, ◌≤ℤ◌, ◌≤◌, List, All}
-use Rattle.gs_trigger.specs.Sights.{Sight, HaveMargins}
-use Rattle.gs_trigger.specs.Triggers.{FastAt, SlowAt}
+use Rattle.gs_trigger.specs.Triggers.{Sight, HaveMargins, FastAt, SlowAt}
 
 -- both triggers never hold together, at whatever levels
 abbrev pub NeverBoth : Type 0

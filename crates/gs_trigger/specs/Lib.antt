@@ -1,4 +1,3 @@
-pub mod Sights
 pub mod Triggers
 pub mod Laws
-pub mod Sides
+pub mod inside

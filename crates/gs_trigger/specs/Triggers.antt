@@ -1,9 +1,17 @@
 -- Rules 4 and 5: when a trigger holds at a level, and its least level.
-use Rattle.std.specs.Prelude.{ℕ, zero, suc, pos, neg_ℤ, nat_abs, ◌≤ℤ◌, ◌-ℤ◌, ◌+◌, ◌-◌, ◌*◌, ◌/◌}
+use Rattle.std.specs.Prelude.{ℕ, ℤ, zero, suc, pos, neg_ℤ, nat_abs, ◌≤ℤ◌, ◌-ℤ◌, ◌<◌, ◌+◌, ◌-◌, ◌*◌, ◌/◌}
 use Rattle.std.specs.Prelude.{List, Bool, ◌&&◌, if◌then◌else◌, Option, Some, None, sum_by, All, Any}
 use Rattle.std.specs.Int.Signed.{le_z}
 use Rattle.std.specs.List.{list_any, list_all}
-use Rattle.gs_trigger.specs.Sights.{Sight}
+use Rattle.gs_units.specs.declared.params.Link.{Link}
+
+-- a link and the offset of its neighbour
+abbrev pub Sight : Type 0
+Sight = Link × ℤ
+
+-- each link's kappa is more than twice its delta
+abbrev pub HaveMargins : List Sight → Type 0
+HaveMargins = All (λ x. 2 * x.0.delta < x.0.kappa)
 
 -- the distance that level s of the fast trigger asks for on a link of this kappa
 abbrev pub odd_level : ℕ → ℕ → ℕ

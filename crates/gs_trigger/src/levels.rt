@@ -3,7 +3,7 @@ ghost use Rattle.std.specs.List.{zip};
 ghost use Rattle.gs_units.specs.Offsets.{IsOffset};
 ghost use Rattle.gs_units.specs.Params.{HasMargin};
 ghost use Rattle.gs_trigger.specs.Triggers.{FastAt, SlowAt, fast_level, slow_level};
-ghost use Rattle.gs_trigger.specs.Sides.{Reaches, TriggerAt, trigger_level, IsLowestAllowed};
+ghost use Rattle.gs_trigger.specs.inside.Sides.{Reaches, TriggerAt, trigger_level, IsLowestAllowed};
 
 use crate::trigger::Trigger;
 use gs_units::Link;

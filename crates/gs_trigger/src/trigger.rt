@@ -14,7 +14,7 @@ pub(crate) enum Trigger {
 }
 
 impl Trigger {
-    ghost use Rattle.gs_trigger.specs.Sides.{distance_of, lead_of, Allows, Reaches};
+    ghost use Rattle.gs_trigger.specs.inside.Sides.{distance_of, lead_of, Allows, Reaches};
 
     /// The least level that the neighbour on this link allows.
     pub(crate) fn allowed_from(self, link: &Link, offset: i128) -> u64

@@ -3,7 +3,6 @@ pub mod Faults
 pub mod Rates
 pub mod Delays
 pub mod Offsets
-pub mod Levels
 pub mod Growth
 pub mod Params
 pub mod Equality

@@ -1,9 +1,17 @@
--- The numbers of a rate, in clock units.
-use Rattle.std.specs.Prelude.{◌≡◌, ℕ, ◌+◌, ◌-◌, ◌/◌}
-use Rattle.gs_units.specs.Accepted.{boosted, crept}
+-- The numbers of a rate, in clock units, and the bounds that they make.
+use Rattle.std.specs.Prelude.{◌≡◌, ℕ, zero, suc, ◌+◌, ◌-◌, ◌*◌, ◌/◌}
+use Rattle.std.specs.Int.{div_ceil}
 use Rattle.gs_units.specs.declared.rate.Rate.{Rate}
 use Rattle.gs_units.specs.declared.rate.Mode.{Mode}
 use Rattle.gs_units.specs.declared.rate.Mode.TheVariants.{Slow, Fast}
+
+-- what a boost of mu parts per million adds to h
+abbrev pub boosted : ℕ → ℕ → ℕ
+boosted mu h = h * mu / 1000000
+
+-- what the slowest clock grows by at least while the fastest grows by h
+abbrev pub crept : ℕ → ℕ → ℕ → ℕ
+crept lo hi h = h * lo / hi
 
 -- a rate is of these numbers
 pub record HasNumbers (low high boost : ℕ) (rate : Rate) : Type 0 where
@@ -47,3 +55,8 @@ drift_of rate = top_of rate - rate.lo
 -- how many times r goes into q
 abbrev pub sigma_of : Rate → ℕ
 sigma_of rate = q_of rate / r_of rate
+
+-- G(s), where G(0) is `first`
+abbrev pub bound_at : ℕ → ℕ → ℕ → ℕ → ℕ
+bound_at first sigma r zero = first
+bound_at first sigma r (suc s) = div_ceil (bound_at first sigma r s) sigma + r

@@ -11,7 +11,7 @@ use Rattle.gs_core.specs.declared.event.Event.TheVariants.{Quantum}
 use Rattle.gs_planfile.specs.declared.text.PlanText.{PlanText}
 use Rattle.gs_plan.specs.Plans.{rate_of, text_of}
 use Rattle.gs_plan.proofs.Telling.{plan_is_graph}
-use Rattle.gs_world.specs.Late.{stale_in, AreDeadlines, IsNoneDueBefore, IsNoneStaleBefore, due_in}
+use Rattle.gs_world.specs.inside.Late.{stale_in, AreDeadlines, IsNoneDueBefore, IsNoneStaleBefore, due_in}
 use Rattle.gs_units.specs.declared.params.NodeParams.{NodeParams}
 use Rattle.gs_core.specs.Node.{clock_of}
 use Rattle.gs_run.specs.Fast.{fast_in, is_fast}
@@ -24,7 +24,7 @@ use Rattle.gs_world.proofs.Upkeep.{deadlines_advanced, fast_advanced, none_fast,
 use Rattle.gs_run.specs.Net.{Net, neighbours}
 use Rattle.gs_run.specs.Nets.{net_of}
 use Rattle.gs_world.specs.Placed.{Placed}
-use Rattle.gs_world.specs.Members.{AreSlowClocks, IsReadable, IsMember, advance_members, advanced_seat, clock_at, member_of, sums}
+use Rattle.gs_world.specs.inside.Members.{AreSlowClocks, IsReadable, IsMember, advance_members, advanced_seat, clock_at, member_of, sums}
 use Rattle.gs_world.specs.Seen.{IsInside, placed_of, world_in}
 use Rattle.gs_run.specs.Why.{drifts, is_due_at, is_stale, stale_at, stale_of, stale_place, why}
 use Rattle.gs_run.specs.World.{Member, World, advanced, clocks_in, effect, member, nobody}

@@ -14,15 +14,15 @@ use Rattle.gs_core.specs.Steps.{deliver_fault}
 use Rattle.gs_core.specs.declared.event.Event.TheVariants.{Deliver}
 use Rattle.gs_units.specs.declared.params.NodeParams.{NodeParams}
 use Rattle.gs_run.specs.Accepted.{AreNumbers}
-use Rattle.gs_world.specs.Admitted.{IsAdmitted}
-use Rattle.gs_world.specs.Delays.{age_refused, delay_of}
-use Rattle.gs_world.specs.Members.{fast_one, IsToldAs, member_of}
+use Rattle.gs_world.specs.inside.Admitted.{IsAdmitted}
+use Rattle.gs_world.specs.inside.Delays.{age_refused, delay_of}
+use Rattle.gs_world.specs.inside.Members.{fast_one, IsToldAs, member_of}
 use Rattle.gs_run.specs.Fast.{fast_in, is_fast}
-use Rattle.gs_world.specs.Late.{AreDeadlines}
+use Rattle.gs_world.specs.inside.Late.{AreDeadlines}
 use Rattle.gs_world.specs.declared.deadlines.Deadlines.{Deadlines}
 use Rattle.gs_world.proofs.Advancing.{few_nodes}
 use Rattle.gs_world.proofs.Upkeep.{clocks_heard, deadlines_heard, fast_replaced}
-use Rattle.gs_world.specs.Find.{at_number}
+use Rattle.gs_world.specs.inside.Find.{at_number}
 use Rattle.gs_run.specs.Net.{Net, neighbour, neighbours, params_of, place_of}
 use Rattle.gs_run.specs.Nets.{net_of}
 use Rattle.gs_world.specs.Placed.{Placed}

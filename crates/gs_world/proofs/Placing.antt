@@ -11,9 +11,9 @@ use Rattle.gs_core.specs.declared.event.Event.TheVariants.{Tick}
 use Rattle.gs_plan.specs.declared.plan.Plan.{Plan}
 use Rattle.gs_plan.specs.Plans.{graph_of, text_of}
 use Rattle.gs_units.specs.declared.params.NodeParams.{NodeParams}
-use Rattle.gs_world.specs.Members.{fast_one, IsMember, IsToldAs, member_of}
+use Rattle.gs_world.specs.inside.Members.{fast_one, IsMember, IsToldAs, member_of}
 use Rattle.gs_run.specs.Fast.{fast_in, is_fast}
-use Rattle.gs_world.specs.Late.{AreDeadlines}
+use Rattle.gs_world.specs.inside.Late.{AreDeadlines}
 use Rattle.gs_run.specs.Net.{Net, neighbours, params_of}
 use Rattle.gs_run.specs.Nets.{net_of}
 use Rattle.gs_world.specs.Placed.{Placed}

@@ -5,7 +5,7 @@ use Rattle.std.proofs.lemmas.List.{get_or-map, get_or_default, length-map, same_
 use Rattle.std.proofs.lemmas.Slice.Zip.{get_or-zip, length-zip}
 use Rattle.gs_core.specs.Node.{Node, heard}
 use Rattle.gs_run.specs.Fast.{is_fast}
-use Rattle.gs_world.specs.Members.{AreSlowClocks, advance_members, advanced_seat, clock_at, sums}
+use Rattle.gs_world.specs.inside.Members.{AreSlowClocks, advance_members, advanced_seat, clock_at, sums}
 use Rattle.gs_run.specs.World.{Member, Sent}
 use Rattle.gs_world.specs.declared.member.Member.{Member as Seat}
 

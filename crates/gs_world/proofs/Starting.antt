@@ -13,7 +13,7 @@ use Rattle.gs_run.specs.Accepted.{IsSmall}
 use Rattle.gs_run.specs.Fast.{is_fast}
 use Rattle.gs_run.specs.Net.{Net}
 use Rattle.gs_run.specs.Reach.{IsReachable}
-use Rattle.gs_world.specs.Members.{IsMember, member_of}
+use Rattle.gs_world.specs.inside.Members.{IsMember, member_of}
 use Rattle.gs_run.specs.World.{Member, World, clocks_in, member_at_start, world_at_start, world_at_start_each}
 use Rattle.gs_world.specs.declared.member.Member.{Member as Seat}
 use Rattle.gs_run.proofs.Reaching.{start_is_reachable}

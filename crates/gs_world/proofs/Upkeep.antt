@@ -14,8 +14,8 @@ use Rattle.gs_units.specs.declared.rate.Rate.{Rate}
 use Rattle.gs_estimate.specs.Entries.{entry_at, is_fresh}
 use Rattle.gs_core.specs.Node.{Node, clock_of, delivered_at, freshened, link_at, link_place}
 use Rattle.gs_run.proofs.Current.{steer_zero}
-use Rattle.gs_world.specs.Late.{stale_in, AreDeadlines, IsNoneDueBefore, IsNoneStaleBefore, due_in}
-use Rattle.gs_world.specs.Members.{fast_one}
+use Rattle.gs_world.specs.inside.Late.{stale_in, AreDeadlines, IsNoneDueBefore, IsNoneStaleBefore, due_in}
+use Rattle.gs_world.specs.inside.Members.{fast_one}
 use Rattle.gs_run.specs.Fast.{fast_in, is_fast}
 use Rattle.gs_run.specs.Net.{Net, params_of}
 use Rattle.gs_run.specs.Why.{at_node, is_due_at, is_stale, stale_of, stale_place}

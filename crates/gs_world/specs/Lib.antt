@@ -1,9 +1,5 @@
 pub mod Placed
 pub mod Memory
 pub mod RunReports
-pub mod Find
-pub mod Admitted
-pub mod Delays
-pub mod Late
-pub mod Members
 pub mod Seen
+pub mod inside

@@ -1,11 +1,11 @@
 -- What the fields of a world stand for: for its view alone.
 use Rattle.std.specs.Prelude.{◌≡◌, ℕ, ◌<◌, length, map, slice_index_or}
 use Rattle.gs_run.specs.Fast.{fast_in}
-use Rattle.gs_world.specs.Late.{AreDeadlines}
+use Rattle.gs_world.specs.inside.Late.{AreDeadlines}
 use Rattle.gs_run.specs.Nets.{net_of}
 use Rattle.gs_world.specs.Placed.{Placed}
 use Rattle.gs_run.specs.Reach.{IsReachable}
-use Rattle.gs_world.specs.Members.{member_of, IsMember}
+use Rattle.gs_world.specs.inside.Members.{member_of, IsMember}
 use Rattle.gs_run.specs.World.{World, clocks_in}
 use Rattle.gs_world.specs.declared.member.Member.{Member as Seat}
 use Rattle.gs_world.specs.declared.world.World.TheInside.{Inside}

@@ -1,7 +1,7 @@
 ghost use Rattle.std.specs.Prelude.{◌≡◌, ◌+◌, ◌<◌, ◌≤◌, ◌^◌, All, false, length, map};
 ghost use Rattle.gs_skew.specs.Ranges.{AreEnds};
 ghost use Rattle.gs_run.specs.Fast.{is_fast};
-ghost use Rattle.gs_world.specs.Members.{AreSlowClocks, IsReadable, clock_at, fast_one, sums};
+ghost use Rattle.gs_world.specs.inside.Members.{AreSlowClocks, IsReadable, clock_at, fast_one, sums};
 
 use crate::member::Member;
 use gs_skew::ClockRange;

@@ -3,7 +3,7 @@ ghost use Rattle.gs_topo.specs.Graph.{Adjacent};
 ghost use Rattle.gs_plan.specs.Plans.{graph_of};
 ghost use Rattle.gs_run.specs.Nets.{net_of};
 ghost use Rattle.gs_run.specs.Net.{neighbours};
-ghost use Rattle.gs_world.specs.Delays.{age_refused, delay_of};
+ghost use Rattle.gs_world.specs.inside.Delays.{age_refused, delay_of};
 
 use gs_plan::Plan;
 use gs_run::Refused;

@@ -31,7 +31,7 @@ impl Member {
     ghost use Rattle.gs_plan.specs.Plans.{graph_of};
     ghost use Rattle.gs_run.specs.Fast.{is_fast};
     ghost use Rattle.gs_run.specs.Nets.{net_of};
-    ghost use Rattle.gs_world.specs.Members.{member_of, IsMember, IsToldAs};
+    ghost use Rattle.gs_world.specs.inside.Members.{member_of, IsMember, IsToldAs};
     ghost use Rattle.gs_run.specs.World.{heard_member, member_at_start, ticked_member};
 
     /// Node `v` of a plan, with the clock `l0` at the reading `hw`. See `docs/MODEL.md`, rule 3.

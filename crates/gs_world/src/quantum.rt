@@ -1,6 +1,6 @@
 ghost use Rattle.std.specs.Prelude.{◌≡◌, ◌+◌, ◌<◌, ◌≤◌, ◌^◌, ◌||◌, All, IsTrue, is_some, length, nat_le, nat_lt};
 ghost use Rattle.std.specs.List.{position};
-ghost use Rattle.gs_world.specs.Members.{advance_members};
+ghost use Rattle.gs_world.specs.inside.Members.{advance_members};
 
 use crate::member::Member;
 

@@ -25,7 +25,7 @@ impl Model for SentBeacon {
 }
 
 impl SentBeacon {
-    ghost use Rattle.gs_world.specs.Find.{at_number};
+    ghost use Rattle.gs_world.specs.inside.Find.{at_number};
 
     /// A beacon that is sent in this quantum.
     pub(crate) fn new(quantum: u32, beacon: Beacon) -> Self

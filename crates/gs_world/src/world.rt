@@ -47,10 +47,10 @@ impl<'p> World<'p> {
     ghost use Rattle.gs_core.specs.declared.event.Event.TheVariants.{Deliver, Quantum, Tick};
     ghost use Rattle.gs_plan.specs.Plans.{graph_of};
     ghost use Rattle.gs_skew.specs.Skews.{edge_skew, global_skew};
-    ghost use Rattle.gs_world.specs.Admitted.{IsAdmitted};
+    ghost use Rattle.gs_world.specs.inside.Admitted.{IsAdmitted};
     ghost use Rattle.gs_world.specs.Memory.{IsTick};
     ghost use Rattle.gs_run.specs.Fast.{fast_in};
-    ghost use Rattle.gs_world.specs.Late.{AreDeadlines, IsNoneDueBefore, IsNoneStaleBefore, due_in, stale_in};
+    ghost use Rattle.gs_world.specs.inside.Late.{AreDeadlines, IsNoneDueBefore, IsNoneStaleBefore, due_in, stale_in};
     ghost use Rattle.gs_run.specs.Nets.{net_of};
     ghost use Rattle.gs_run.specs.Reach.{IsReachable};
     ghost use Rattle.gs_run.specs.Why.{why};

@@ -2,7 +2,7 @@ use Rattle.std.proofs.Common.{◌≡◌, ◌<◌, ◌≤◌, ◌+◌, ◌∙◌,
 use Rattle.std.proofs.lemmas.List.{drop_all, drop_more}
 use Rattle.gs_core.specs.declared.event.Event.{Event}
 use Rattle.gs_trace.specs.Scans.{event_told}
-use Rattle.gs_audit.specs.Running.{IsAuditing}
+use Rattle.gs_audit.specs.inside.Running.{IsAuditing}
 use Rattle.gs_audit.proofs.Exact.{refused_is, within_is}
 use Rattle.gs_audit.proofs.Onward.{same_left}
 use Rattle.gs_audit.proofs.audits.audit_all.Goals as goal

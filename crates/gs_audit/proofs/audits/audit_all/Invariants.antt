@@ -1,5 +1,5 @@
 use Rattle.std.proofs.Common.{drop}
-use Rattle.gs_audit.specs.Running.{IsAuditing}
+use Rattle.gs_audit.specs.inside.Running.{IsAuditing}
 use Rattle.gs_audit.proofs.audits.audit_all.Given as goal
 
 abbrev pub invariant-loop-event : goal.invariant-loop-event

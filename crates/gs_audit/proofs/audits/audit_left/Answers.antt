@@ -3,7 +3,7 @@ use Rattle.std.specs.Vec.{with_items}
 use Rattle.std.proofs.lemmas.List.{with_items_is}
 use Rattle.gs_core.specs.declared.event.Event.{Event}
 use Rattle.gs_trace.specs.Scans.{event_told}
-use Rattle.gs_audit.specs.Running.{IsAuditing}
+use Rattle.gs_audit.specs.inside.Running.{IsAuditing}
 use Rattle.gs_audit.proofs.Exact.{refused_is, within_is}
 use Rattle.gs_audit.proofs.Onward.{same_left}
 use Rattle.gs_audit.proofs.audits.audit_left.Goals as goal

@@ -1,5 +1,5 @@
 use Rattle.std.proofs.Common.{◌≡◌, length}
-use Rattle.gs_audit.specs.Running.{IsAuditing}
+use Rattle.gs_audit.specs.inside.Running.{IsAuditing}
 use Rattle.gs_audit.proofs.audits.audit_left.Given as goal
 
 abbrev pub invariant-loop-next : goal.invariant-loop-next

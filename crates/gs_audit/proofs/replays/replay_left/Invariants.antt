@@ -1,5 +1,5 @@
 use Rattle.std.proofs.Common.{length}
-use Rattle.gs_audit.specs.NodeRunning.{IsReplaying}
+use Rattle.gs_audit.specs.inside.NodeRunning.{IsReplaying}
 use Rattle.gs_audit.proofs.replays.replay_left.Given as goal
 
 abbrev pub invariant-loop-event : goal.invariant-loop-event

@@ -1,6 +1,6 @@
 use Rattle.std.proofs.Common.{◌≡◌, ℕ, ◌<◌, length}
 use Rattle.gs_calendar.specs.Calendar.{first_turn}
-use Rattle.gs_calendar.specs.Feeds.{turn_in}
+use Rattle.gs_calendar.specs.inside.Feeds.{turn_in}
 use Rattle.gs_calendar.proofs.feed.first_turns.Given as goal
 
 abbrev pub invariant-loop : goal.invariant-loop

@@ -1,5 +1,5 @@
 use Rattle.std.proofs.Common.{◌≡◌, ℕ, ◌<◌, [], length}
-use Rattle.gs_calendar.specs.Feeds.{waiting}
+use Rattle.gs_calendar.specs.inside.Feeds.{waiting}
 use Rattle.gs_calendar.proofs.feed.none_waiting.Given as goal
 
 abbrev pub invariant-loop : goal.invariant-loop

@@ -1,6 +1,6 @@
 use Rattle.std.proofs.Common.{◌≡◌, ℕ, [], ◌<◌, ◌≤◌}
 use Rattle.gs_calendar.specs.Due.{due_by}
-use Rattle.gs_calendar.specs.Feeds.{waiting}
+use Rattle.gs_calendar.specs.inside.Feeds.{waiting}
 use Rattle.gs_calendar.proofs.round.take_due.Given as goal
 
 abbrev pub invariant-loop-v : goal.invariant-loop-v

@@ -2,7 +2,7 @@ use Rattle.std.proofs.Common.{ℕ, suc, ◌<◌, slice_index}
 use Rattle.gs_run.specs.Net.{neighbours}
 use Rattle.gs_run.specs.Nets.{net_of}
 use Rattle.gs_calendar.specs.Course.{course_of}
-use Rattle.gs_calendar.specs.Feeds.{Grows, HasSent}
+use Rattle.gs_calendar.specs.inside.Feeds.{Grows, HasSent}
 use Rattle.gs_calendar.proofs.sending.send.Given as goal
 
 abbrev pub invariant-loop-to : goal.invariant-loop-to

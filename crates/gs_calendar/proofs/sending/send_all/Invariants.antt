@@ -2,7 +2,7 @@ use Rattle.std.proofs.Common.{◌≡◌, ℕ, suc, ◌<◌}
 use Rattle.gs_run.specs.Nets.{net_of}
 use Rattle.gs_calendar.specs.Calendar.{turn}
 use Rattle.gs_calendar.specs.Course.{course_of}
-use Rattle.gs_calendar.specs.Feeds.{Grows, HasSentAll, turn_in}
+use Rattle.gs_calendar.specs.inside.Feeds.{Grows, HasSentAll, turn_in}
 use Rattle.gs_calendar.proofs.sending.send_all.Given as goal
 
 abbrev pub invariant-loop-v : goal.invariant-loop-v

@@ -2,7 +2,7 @@ use Rattle.std.proofs.Common.{◌≡◌, ◌<◌, ◌≤◌, ◌^◌, All}
 use Rattle.std.specs.Iterator.Adapters.{zip_first, zip_second}
 use Rattle.std.specs.Slice.Iter.{iter_rest}
 use Rattle.gs_units.specs.Params.{HasMargin}
-use Rattle.gs_core.specs.Quiet.{is_quiet}
+use Rattle.gs_core.specs.inside.Quiet.{is_quiet}
 use Rattle.gs_core.proofs.quiet.is_quiet.Given as goal
 
 abbrev pub invariant-loop-link : goal.invariant-loop-link

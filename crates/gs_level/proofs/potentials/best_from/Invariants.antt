@@ -1,6 +1,6 @@
 use Rattle.std.proofs.Common.{◌≡◌, fold}
 use Rattle.gs_plan.specs.Plans.{text_of, graph_of}
-use Rattle.gs_level.specs.Running.{pairs_from, raised}
+use Rattle.gs_level.specs.inside.Running.{pairs_from, raised}
 use Rattle.gs_plan.specs.Weights.{weight_in}
 use Rattle.gs_level.proofs.potentials.best_from.Given as goal
 

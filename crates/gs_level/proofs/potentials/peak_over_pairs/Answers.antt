@@ -1,7 +1,7 @@
 use Rattle.std.proofs.Common.{◌≡◌, ℕ, fold, length, ◌∙◌, ap, arith}
 use Rattle.gs_topo.specs.Graph.{Graph}
 use Rattle.gs_plan.specs.Plans.{text_of, graph_of}
-use Rattle.gs_level.specs.Running.{raised}
+use Rattle.gs_level.specs.inside.Running.{raised}
 use Rattle.gs_plan.specs.Weights.{weight_in}
 use Rattle.gs_level.proofs.Pairs.{one_more_node, pairs_below, pass_over_pairs}
 use Rattle.gs_level.proofs.potentials.peak_over_pairs.Goals as goal

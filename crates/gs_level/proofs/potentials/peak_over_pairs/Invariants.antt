@@ -1,6 +1,6 @@
 use Rattle.std.proofs.Common.{◌≡◌, fold, length}
 use Rattle.gs_plan.specs.Plans.{text_of, graph_of}
-use Rattle.gs_level.specs.Running.{raised}
+use Rattle.gs_level.specs.inside.Running.{raised}
 use Rattle.gs_plan.specs.Weights.{weight_in}
 use Rattle.gs_level.proofs.Pairs.{pairs_below}
 use Rattle.gs_level.proofs.potentials.peak_over_pairs.Given as goal

@@ -1,6 +1,6 @@
 use Rattle.std.proofs.Common.{◌≡◌, ◌∙◌, ap, length, map, rules}
 use Rattle.std.proofs.lemmas.List.{with_items_is}
-use Rattle.gs_order.specs.UnderWay.{after_clocks}
+use Rattle.gs_order.specs.inside.UnderWay.{after_clocks}
 use Rattle.gs_order.specs.Waits.{wait_of}
 use Rattle.gs_order.proofs.Beginning.{done_mapped}
 use Rattle.gs_order.proofs.ordering.after_quantum.Goals as goal

@@ -1,5 +1,5 @@
 use Rattle.std.proofs.Common.{◌≡◌, ℕ, ◌<◌, ◌≤◌, length, slice_index_or}
-use Rattle.gs_order.specs.UnderWay.{after_clocks}
+use Rattle.gs_order.specs.inside.UnderWay.{after_clocks}
 use Rattle.gs_order.specs.Waits.{wait_of}
 use Rattle.gs_order.specs.declared.timed.Timed.{Timed}
 use Rattle.gs_order.proofs.ordering.finish_open.Given as goal

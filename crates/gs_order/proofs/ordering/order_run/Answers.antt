@@ -8,7 +8,7 @@ use Rattle.gs_calendar.specs.Scripts.{breach_of_script}
 use Rattle.gs_calendar.specs.Stops.{StopsAt}
 use Rattle.gs_rows.specs.Row.{zeros_of}
 use Rattle.gs_rows.specs.Stage.{IsOver, Stage}
-use Rattle.gs_order.specs.UnderWay.{after_clocks, with_due}
+use Rattle.gs_order.specs.inside.UnderWay.{after_clocks, with_due}
 use Rattle.gs_order.specs.Waits.{wait_of}
 use Rattle.gs_order.specs.declared.timed.Timed.{Timed}
 use Rattle.gs_order.proofs.Running.{begins_order, goes_on_order, is_order, is_ordered, known_nodes, no_breach, row_of_stage, step_here, stops_order}

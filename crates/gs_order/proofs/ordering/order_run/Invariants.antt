@@ -3,7 +3,7 @@ use Rattle.gs_plan.specs.Plans.{graph_of}
 use Rattle.gs_run.specs.Nets.{net_of}
 use Rattle.gs_rows.specs.Row.{clock_at, rows_of_script, zeros_of}
 use Rattle.gs_order.specs.Orders.{timed_upto}
-use Rattle.gs_order.specs.UnderWay.{AreDone}
+use Rattle.gs_order.specs.inside.UnderWay.{AreDone}
 use Rattle.gs_order.specs.Waits.{wait_of}
 use Rattle.gs_order.proofs.ordering.order_run.Given as goal
 

@@ -2,7 +2,7 @@ use Rattle.std.proofs.Common.{◌∙◌, ◌≡◌, ◌+◌, ap, arith, length, 
 use Rattle.gs_topo.specs.Graph.{number_of}
 use Rattle.gs_planfile.specs.declared.text.EdgeSpan.{EdgeSpan}
 use Rattle.gs_plan.specs.Faults.{is_bad_span}
-use Rattle.gs_plan.specs.Kept.{edge_spans}
+use Rattle.gs_plan.specs.inside.Kept.{edge_spans}
 use Rattle.gs_plan.proofs.Chain.{spans-more}
 use Rattle.gs_plan.proofs.SpanTable.{no_spans, table_next}
 use Rattle.gs_plan.proofs.checking.spans_by_edge.Goals as goal

@@ -1,7 +1,7 @@
 use Rattle.std.proofs.Common.{◌≡◌, ◌≤◌, [], take, drop, is_some}
 use Rattle.std.specs.List.{count_by}
 use Rattle.gs_plan.specs.Faults.{span_fault}
-use Rattle.gs_plan.specs.Kept.{edge_spans}
+use Rattle.gs_plan.specs.inside.Kept.{edge_spans}
 use Rattle.gs_plan.proofs.checking.spans_by_edge.Given as goal
 
 abbrev pub invariant-loop-i : goal.invariant-loop-i

@@ -1,5 +1,5 @@
 use Rattle.std.proofs.Common.{length}
-use Rattle.gs_record.specs.UnderWay.{IsRecording}
+use Rattle.gs_record.specs.inside.UnderWay.{IsRecording}
 use Rattle.gs_record.proofs.record.record_script.Given as goal
 
 abbrev pub invariant-loop-world : goal.invariant-loop-world

@@ -1,6 +1,6 @@
 use Rattle.std.proofs.Common.{◌≡◌, None, length}
 use Rattle.gs_run.specs.Nets.{net_of}
-use Rattle.gs_rows.specs.Onward.{left_of, GoesOn}
+use Rattle.gs_rows.specs.inside.Onward.{left_of, GoesOn}
 use Rattle.gs_rows.proofs.advancing.play_on.Given as goal
 
 abbrev pub invariant-loop-world : goal.invariant-loop-world

@@ -1,5 +1,5 @@
 use Rattle.std.proofs.Common.{max}
-use Rattle.gs_script.specs.Runs.{value_at}
+use Rattle.gs_script.specs.inside.Runs.{value_at}
 use Rattle.gs_script.proofs.Numbers.{delay_lasts}
 use Rattle.gs_script.proofs.kept.delay_at.Goals as goal
 

@@ -1,4 +1,4 @@
-use Rattle.gs_script.specs.Runs.{value_at}
+use Rattle.gs_script.specs.inside.Runs.{value_at}
 use Rattle.gs_script.proofs.Numbers.{drift_lasts}
 use Rattle.gs_script.proofs.kept.drift_at.Goals as goal
 

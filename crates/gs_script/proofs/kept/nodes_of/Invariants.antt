@@ -1,5 +1,5 @@
 use Rattle.gs_plan.specs.Plans.{text_of}
-use Rattle.gs_script.specs.Kept.{HasNodes}
+use Rattle.gs_script.specs.inside.Kept.{HasNodes}
 use Rattle.gs_script.proofs.kept.nodes_of.Given as goal
 
 abbrev pub invariant-loop-v : goal.invariant-loop-v

@@ -1,5 +1,5 @@
 use Rattle.std.proofs.Common.{◌∙◌}
-use Rattle.gs_script.specs.Kept.{is_in}
+use Rattle.gs_script.specs.inside.Kept.{is_in}
 use Rattle.gs_script.proofs.Numbers.{painted_of}
 use Rattle.gs_script.proofs.kept.runs_of.Goals as goal
 

@@ -3,7 +3,7 @@ use Rattle.std.specs.Result.{is_ok}
 use Rattle.gs_topo.specs.Graph.{Graph, neighbours_of}
 use Rattle.gs_plan.specs.Plans.{text_of}
 use Rattle.gs_plan.specs.Shapes.{graph_of_text}
-use Rattle.gs_script.specs.Kept.{HasWays}
+use Rattle.gs_script.specs.inside.Kept.{HasWays}
 use Rattle.gs_script.proofs.Keeping.{few_neighbours, ways-more}
 use Rattle.gs_script.proofs.kept.ways_from.Goals as goal
 

@@ -1,7 +1,7 @@
 use Rattle.std.proofs.Common.{◌≡◌, take, map}
 use Rattle.gs_plan.specs.Plans.{text_of}
 use Rattle.gs_plan.specs.Shapes.{graph_of_text}
-use Rattle.gs_script.specs.Kept.{link_of}
+use Rattle.gs_script.specs.inside.Kept.{link_of}
 use Rattle.gs_script.proofs.links.links.Given as goal
 
 abbrev pub invariant-loop-e : goal.invariant-loop-e

@@ -1,5 +1,5 @@
 use Rattle.std.proofs.Common.{◌≡◌, drop}
-use Rattle.gs_script.specs.Kept.{home, is_same, latest}
+use Rattle.gs_script.specs.inside.Kept.{home, is_same, latest}
 use Rattle.gs_script.proofs.places.places_at.Given as goal
 
 abbrev pub invariant-loop-i : goal.invariant-loop-i

@@ -1,5 +1,5 @@
 use Rattle.std.proofs.Common.{◌≡◌, filter, take}
-use Rattle.gs_script.specs.Kept.{is_at, is_in}
+use Rattle.gs_script.specs.inside.Kept.{is_at, is_in}
 use Rattle.gs_script.proofs.places.places_in.Given as goal
 
 abbrev pub invariant-loop-place : goal.invariant-loop-place

@@ -3,7 +3,7 @@ use Rattle.std.specs.Result.{is_ok}
 use Rattle.std.proofs.lemmas.List.Elements.{All-push}
 use Rattle.csv.specs.Records.{Row, fields_of}
 use Rattle.gs_plan.specs.Plans.{text_of}
-use Rattle.gs_script.specs.Kept.{Fits, IsSpan}
+use Rattle.gs_script.specs.inside.Kept.{Fits, IsSpan}
 use Rattle.gs_script.specs.Reading.{line_at}
 use Rattle.gs_script.proofs.Folded.{lines-more}
 use Rattle.gs_script.proofs.read.lines_from.Goals as goal

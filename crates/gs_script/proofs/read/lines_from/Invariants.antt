@@ -1,7 +1,7 @@
 use Rattle.std.proofs.Common.{◌≡◌, ◌+◌, ◌≤◌, All, drop, length, map}
 use Rattle.csv.specs.Records.{fields_of}
 use Rattle.gs_plan.specs.Plans.{text_of}
-use Rattle.gs_script.specs.Kept.{Fits, IsSpan, after}
+use Rattle.gs_script.specs.inside.Kept.{Fits, IsSpan, after}
 use Rattle.gs_script.specs.Reading.{lines_from}
 use Rattle.gs_script.proofs.read.lines_from.Given as goal
 

@@ -1,5 +1,5 @@
 use Rattle.std.proofs.Common.{◌≡◌, ℕ, ◌<◌, ◌≤◌, length, slice_index_or, Option}
-use Rattle.gs_settle.specs.Running.{marked}
+use Rattle.gs_settle.specs.inside.Running.{marked}
 use Rattle.gs_settle.proofs.settling.mark.Given as goal
 
 abbrev pub invariant-loop-s : goal.invariant-loop-s

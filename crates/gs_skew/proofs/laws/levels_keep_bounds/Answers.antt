@@ -1,5 +1,5 @@
 use Rattle.std.proofs.Common.{IsTrue, ◌/◌}
-use Rattle.gs_units.specs.Levels.{bound_at}
+use Rattle.gs_units.specs.Rates.{bound_at}
 use Rattle.gs_skew.proofs.Bounded.{edges_keep_bound, keeps_bound}
 use Rattle.gs_skew.proofs.laws.levels_keep_bounds.Goals as goal
 

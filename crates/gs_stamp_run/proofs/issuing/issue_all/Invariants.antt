@@ -1,7 +1,7 @@
 use Rattle.std.proofs.Common.{◌≡◌, ◌≤◌, false}
 use Rattle.gs_stamp.specs.Disk.{LeavesOnly}
 use Rattle.gs_stamp.specs.Format.{ceiling_of}
-use Rattle.gs_stamp_run.specs.Turns.{Far}
+use Rattle.gs_stamp_run.specs.inside.Turns.{Far}
 use Rattle.gs_stamp_run.proofs.issuing.issue_all.Given as goal
 
 abbrev pub invariant-loop-turn : goal.invariant-loop-turn

@@ -1,6 +1,6 @@
 use Rattle.std.proofs.Common.{◌≡◌, ◌∙◌, ◌++◌, ◌∷◌, ◌<◌, ℕ, List, [], rules, subst}
 use Rattle.gs_tdma.proofs.Colouring.{colours_more, low_more}
-use Rattle.gs_tdma.specs.Kept.{IsFree, IsTaken}
+use Rattle.gs_tdma.specs.inside.Kept.{IsFree, IsTaken}
 use Rattle.gs_tdma.proofs.colours.colours_of.Goals as goal
 
 pub loop-v-preserved : goal.loop-v-preserved

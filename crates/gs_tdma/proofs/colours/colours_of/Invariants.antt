@@ -1,4 +1,4 @@
-use Rattle.gs_tdma.specs.Kept.{AreLow}
+use Rattle.gs_tdma.specs.inside.Kept.{AreLow}
 use Rattle.gs_tdma.specs.Slots.{AreColours}
 use Rattle.gs_tdma.proofs.colours.colours_of.Given as goal
 

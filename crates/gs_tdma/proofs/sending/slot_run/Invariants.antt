@@ -2,7 +2,7 @@ use Rattle.std.proofs.Common.{◌≡◌, ◌-◌}
 use Rattle.gs_plan.specs.Plans.{graph_of}
 use Rattle.gs_run.specs.Nets.{net_of}
 use Rattle.gs_rows.specs.Row.{rows_of_script, zeros_of}
-use Rattle.gs_tdma.specs.Kept.{AreSent}
+use Rattle.gs_tdma.specs.inside.Kept.{AreSent}
 use Rattle.gs_tdma.proofs.sending.slot_run.Given as goal
 
 abbrev pub invariant-loop-sent : goal.invariant-loop-sent

@@ -1,5 +1,5 @@
 use Rattle.std.proofs.Common.{◌≡◌, ℕ, ◌<◌, ◌≤◌, length, slice_index}
-use Rattle.gs_tdma.specs.Kept.{with_clock}
+use Rattle.gs_tdma.specs.inside.Kept.{with_clock}
 use Rattle.gs_tdma.proofs.sending.with_clocks.Given as goal
 
 abbrev pub invariant-loop-v : goal.invariant-loop-v

@@ -1,4 +1,4 @@
-use Rattle.gs_tool.specs.SourceSeen.{source_in}
+use Rattle.gs_tool.specs.inside.SourceSeen.{source_in}
 use Rattle.gs_tool.proofs.Reading.{script_stops}
 use Rattle.gs_tool.proofs.inputs.accepted.Goals as goal
 

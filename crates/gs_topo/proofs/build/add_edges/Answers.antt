@@ -1,5 +1,5 @@
 use Rattle.std.proofs.Common.{arith, append_assoc}
-use Rattle.gs_topo.specs.Kept.{flag_at}
+use Rattle.gs_topo.specs.inside.Kept.{flag_at}
 use Rattle.gs_topo.proofs.Building.{row_more}
 use Rattle.gs_topo.proofs.build.add_edges.Goals as goal
 

@@ -1,6 +1,6 @@
 use Rattle.std.proofs.Common.{◌≡◌, ◌+◌, ◌-◌, ◌++◌, filter, map}
 use Rattle.std.specs.List.{range_with_len}
-use Rattle.gs_topo.specs.Kept.{flag_at}
+use Rattle.gs_topo.specs.inside.Kept.{flag_at}
 use Rattle.gs_topo.proofs.build.add_edges.Given as goal
 
 abbrev pub invariant-loop-b : goal.invariant-loop-b

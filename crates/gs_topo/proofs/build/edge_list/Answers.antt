@@ -1,6 +1,6 @@
 use Rattle.std.proofs.Common.{◌+◌, ◌-◌, map}
 use Rattle.std.specs.List.{range_with_len}
-use Rattle.gs_topo.specs.Kept.{flag_at}
+use Rattle.gs_topo.specs.inside.Kept.{flag_at}
 use Rattle.gs_topo.proofs.Building.{pairs_more}
 use Rattle.gs_topo.proofs.build.edge_list.Goals as goal
 

@@ -1,6 +1,6 @@
 use Rattle.std.proofs.Common.{◌≡◌, ◌+◌, ◌-◌, filter, map}
 use Rattle.std.specs.List.{flat_map, range_with_len}
-use Rattle.gs_topo.specs.Kept.{flag_at}
+use Rattle.gs_topo.specs.inside.Kept.{flag_at}
 use Rattle.gs_topo.proofs.build.edge_list.Given as goal
 
 abbrev pub invariant-loop-a : goal.invariant-loop-a

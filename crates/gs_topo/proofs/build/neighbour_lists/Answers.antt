@@ -1,6 +1,6 @@
 use Rattle.std.proofs.Common.{filter}
 use Rattle.std.specs.List.{range_with_len}
-use Rattle.gs_topo.specs.Kept.{flag_at}
+use Rattle.gs_topo.specs.inside.Kept.{flag_at}
 use Rattle.gs_topo.proofs.Building.{map_range_more}
 use Rattle.gs_topo.proofs.build.neighbour_lists.Goals as goal
 

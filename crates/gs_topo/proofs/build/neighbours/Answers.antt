@@ -1,4 +1,4 @@
-use Rattle.gs_topo.specs.Kept.{flag_at}
+use Rattle.gs_topo.specs.inside.Kept.{flag_at}
 use Rattle.gs_topo.proofs.Building.{filter_range_more}
 use Rattle.gs_topo.proofs.build.neighbours.Goals as goal
 

@@ -1,6 +1,6 @@
 use Rattle.std.proofs.Common.{◌≡◌, filter}
 use Rattle.std.specs.List.{range_with_len}
-use Rattle.gs_topo.specs.Kept.{flag_at}
+use Rattle.gs_topo.specs.inside.Kept.{flag_at}
 use Rattle.gs_topo.proofs.build.neighbours.Given as goal
 
 abbrev pub invariant-loop-w : goal.invariant-loop-w

@@ -1,7 +1,7 @@
 use Rattle.std.proofs.Common.{◌≡◌, sym, ◌∙◌, None, take, get_or}
 use Rattle.gs_topo.specs.Faults.{edge_fault}
 use Rattle.gs_topo.specs.Graph.{joined}
-use Rattle.gs_topo.specs.Kept.{HasFlags}
+use Rattle.gs_topo.specs.inside.Kept.{HasFlags}
 use Rattle.gs_topo.proofs.Flagging.{edges_fault-end, edges_fault-stop, edges_fault-more, joined_more}
 use Rattle.gs_topo.proofs.flags.flags_of.Goals as goal
 

@@ -1,7 +1,7 @@
 use Rattle.std.proofs.Common.{◌≡◌, [], take, drop}
 use Rattle.gs_topo.specs.Faults.{edges_fault}
 use Rattle.gs_topo.specs.Graph.{joined}
-use Rattle.gs_topo.specs.Kept.{HasFlags}
+use Rattle.gs_topo.specs.inside.Kept.{HasFlags}
 use Rattle.gs_topo.proofs.flags.flags_of.Given as goal
 
 abbrev pub invariant-loop-i : goal.invariant-loop-i

@@ -1,5 +1,5 @@
 use Rattle.std.proofs.Common.{◌≢◌, ◌<◌, ℕ, slice_index}
-use Rattle.gs_topo.specs.Search.{far_level}
+use Rattle.gs_topo.specs.inside.Search.{far_level}
 use Rattle.gs_topo.proofs.levels.first_unreached.Given as goal
 
 abbrev pub invariant-loop-v : goal.invariant-loop-v

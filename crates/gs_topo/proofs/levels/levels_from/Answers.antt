@@ -1,7 +1,7 @@
 use Rattle.std.proofs.Common.{rules, arith, ◌≡◌, ◌<◌, [], ◌∷◌, length, replicate, slice_index_or}
 use Rattle.std.specs.Vec.{vec_len}
 use Rattle.gs_topo.specs.Graph.{adjacent}
-use Rattle.gs_topo.specs.Search.{Trial, far_level}
+use Rattle.gs_topo.specs.inside.Search.{Trial, far_level}
 use Rattle.gs_topo.specs.Walks.{one_each}
 use Rattle.gs_topo.proofs.Levelling.{here_small, levels_are, node_inside, nodes_below, turn_goes_on, turn_of, turn_within}
 use Rattle.gs_topo.proofs.Searching.{begins, begins_within}

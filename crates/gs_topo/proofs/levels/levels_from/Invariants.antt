@@ -1,7 +1,7 @@
 use Rattle.std.proofs.Common.{◌≡◌, ◌+◌, ◌*◌, length, map, sum}
 use Rattle.std.specs.List.{range_with_len}
 use Rattle.gs_topo.specs.Graph.{Graph, adjacent, neighbours_of}
-use Rattle.gs_topo.specs.Search.{far_level}
+use Rattle.gs_topo.specs.inside.Search.{far_level}
 use Rattle.gs_topo.specs.Walks.{one_each}
 use Rattle.gs_topo.proofs.Relaxing.{rest_of}
 use Rattle.gs_topo.proofs.Searching.{IsWithin, IsUnderWay}

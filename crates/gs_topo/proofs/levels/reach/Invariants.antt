@@ -1,5 +1,5 @@
 use Rattle.std.proofs.Common.{◌≡◌, take, length}
-use Rattle.gs_topo.specs.Search.{all_reached}
+use Rattle.gs_topo.specs.inside.Search.{all_reached}
 use Rattle.gs_topo.proofs.levels.reach.Given as goal
 
 abbrev pub invariant-loop-node : goal.invariant-loop-node

@@ -1,5 +1,5 @@
 use Rattle.std.proofs.Common.{◌≡◌, take, length}
-use Rattle.gs_topo.specs.Search.{all_tried}
+use Rattle.gs_topo.specs.inside.Search.{all_tried}
 use Rattle.gs_topo.proofs.search.relax.Given as goal
 
 abbrev pub invariant-loop-step : goal.invariant-loop-step

@@ -1,6 +1,6 @@
 use Rattle.std.proofs.Common.{rules, ◌≡◌, ◌<◌, ◌≤◌, [], ◌∷◌, All, length, replicate, slice_index, slice_index_or}
 use Rattle.std.specs.List.{swap_remove}
-use Rattle.gs_topo.specs.Search.{Trial, all_tried, far_sum}
+use Rattle.gs_topo.specs.inside.Search.{Trial, all_tried, far_sum}
 use Rattle.gs_topo.proofs.Members.{no_members}
 use Rattle.gs_topo.proofs.Searching.{begins, begins_settled, begins_within, ends}
 use Rattle.gs_topo.proofs.Settling.{pick_goes_on, picked}

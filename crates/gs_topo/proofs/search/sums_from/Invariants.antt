@@ -1,5 +1,5 @@
 use Rattle.std.proofs.Common.{◌+◌, ◌*◌, ℕ, Bool, length, sum}
-use Rattle.gs_topo.specs.Search.{AreSteps, far_sum}
+use Rattle.gs_topo.specs.inside.Search.{AreSteps, far_sum}
 use Rattle.gs_topo.proofs.Searching.{IsWithin, IsUnderWay, IsSettled}
 use Rattle.gs_topo.proofs.search.sums_from.Given as goal
 

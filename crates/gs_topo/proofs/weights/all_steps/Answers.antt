@@ -1,5 +1,5 @@
 use Rattle.gs_topo.specs.Graph.{neighbours_of}
-use Rattle.gs_topo.specs.Search.{steps_over}
+use Rattle.gs_topo.specs.inside.Search.{steps_over}
 use Rattle.gs_topo.specs.Weights.{length_between}
 use Rattle.gs_topo.proofs.Building.{map_range_more}
 use Rattle.gs_topo.proofs.weights.all_steps.Goals as goal

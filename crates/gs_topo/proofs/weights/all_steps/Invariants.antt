@@ -1,7 +1,7 @@
 use Rattle.std.proofs.Common.{◌≡◌, map}
 use Rattle.std.specs.List.{range_with_len}
 use Rattle.gs_topo.specs.Graph.{neighbours_of}
-use Rattle.gs_topo.specs.Search.{steps_over}
+use Rattle.gs_topo.specs.inside.Search.{steps_over}
 use Rattle.gs_topo.specs.Weights.{length_between}
 use Rattle.gs_topo.proofs.weights.all_steps.Given as goal
 

@@ -1,4 +1,4 @@
-use Rattle.gs_topo.specs.Weighted.{AreRows}
+use Rattle.gs_topo.specs.inside.Weighted.{AreRows}
 use Rattle.gs_topo.proofs.weights.least_table.Given as goal
 
 abbrev pub invariant-loop-source : goal.invariant-loop-source

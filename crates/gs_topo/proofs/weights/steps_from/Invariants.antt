@@ -1,6 +1,6 @@
 use Rattle.std.proofs.Common.{◌≡◌, take}
 use Rattle.gs_topo.specs.Graph.{neighbours_of}
-use Rattle.gs_topo.specs.Search.{steps_over}
+use Rattle.gs_topo.specs.inside.Search.{steps_over}
 use Rattle.gs_topo.specs.Weights.{length_between}
 use Rattle.gs_topo.proofs.weights.steps_from.Given as goal
 

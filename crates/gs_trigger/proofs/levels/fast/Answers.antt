@@ -1,5 +1,5 @@
 use Rattle.gs_trigger.specs.Triggers.{fast_level}
-use Rattle.gs_trigger.specs.Sides.{trigger_level}
+use Rattle.gs_trigger.specs.inside.Sides.{trigger_level}
 use Rattle.gs_trigger.proofs.levels.fast.Goals as goal
 
 pub returns-clause-exact : goal.returns-clause-exact

@@ -1,6 +1,6 @@
 use Rattle.std.proofs.Common.{◌≡◌, ℕ, ◌≤◌, arith, true, sym}
 use Rattle.std.specs.List.{zip}
-use Rattle.gs_trigger.specs.Sides.{TriggerAt}
+use Rattle.gs_trigger.specs.inside.Sides.{TriggerAt}
 use Rattle.gs_trigger.proofs.Candidate.{HaveMargins-zip, lowest_holds, none_from, none_holds}
 use Rattle.gs_trigger.proofs.Exact.{trigger_level-least, trigger_level-none}
 use Rattle.gs_trigger.proofs.levels.least_level.Goals as goal

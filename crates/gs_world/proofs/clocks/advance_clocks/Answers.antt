@@ -1,5 +1,5 @@
 use Rattle.std.proofs.Common.{◌∙◌, List, subst, sym, ℕ}
-use Rattle.gs_world.specs.Members.{AreSlowClocks}
+use Rattle.gs_world.specs.inside.Members.{AreSlowClocks}
 use Rattle.gs_world.proofs.Seating.{all_slow}
 use Rattle.gs_world.proofs.clocks.advance_clocks.Goals as goal
 

@@ -1,7 +1,7 @@
 use Rattle.std.proofs.Common.{◌≡◌, ◌≢◌, ◌<◌, ◌∙◌, ◌++◌, ◌∷◌, [], ap, arith, false, length, length-set, List, map, slice_index_or, subst, sym, take, take_all, ℕ}
 use Rattle.std.proofs.lemmas.List.{get_or-map, get_or-set_other, length-map, take_more, take_more_set}
 use Rattle.gs_run.specs.Fast.{is_fast}
-use Rattle.gs_world.specs.Members.{clock_at}
+use Rattle.gs_world.specs.inside.Members.{clock_at}
 use Rattle.gs_world.specs.declared.member.Member.{Member as Seat}
 use Rattle.gs_world.proofs.clocks.renew.Goals as goal
 

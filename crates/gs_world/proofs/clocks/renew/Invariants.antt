@@ -1,5 +1,5 @@
 use Rattle.std.proofs.Common.{◌≡◌, ℕ, ◌≤◌, length, map, slice_index, take}
-use Rattle.gs_world.specs.Members.{clock_at}
+use Rattle.gs_world.specs.inside.Members.{clock_at}
 use Rattle.gs_world.proofs.clocks.renew.Given as goal
 
 abbrev pub invariant-loop-v : goal.invariant-loop-v

@@ -1,5 +1,5 @@
 use Rattle.std.proofs.Common.{◌≡◌, map, take}
-use Rattle.gs_world.specs.Delays.{delay_of}
+use Rattle.gs_world.specs.inside.Delays.{delay_of}
 use Rattle.gs_run.specs.Net.{neighbours}
 use Rattle.gs_run.specs.Nets.{net_of}
 use Rattle.gs_world.proofs.delay.delays.Given as goal

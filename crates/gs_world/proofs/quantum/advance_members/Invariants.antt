@@ -1,5 +1,5 @@
 use Rattle.std.proofs.Common.{◌≡◌, ℕ, ◌<◌, ◌≤◌, length, slice_index, slice_index_or}
-use Rattle.gs_world.specs.Members.{advanced_seat}
+use Rattle.gs_world.specs.inside.Members.{advanced_seat}
 use Rattle.gs_world.specs.declared.member.Member.{Member as Seat}
 use Rattle.gs_world.proofs.quantum.advance_members.Given as goal
 

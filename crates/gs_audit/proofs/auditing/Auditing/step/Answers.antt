@@ -1,5 +1,5 @@
 use Rattle.std.proofs.Common.{◌∷◌, subst}
-use Rattle.gs_audit.specs.Running.{IsAuditing}
+use Rattle.gs_audit.specs.inside.Running.{IsAuditing}
 use Rattle.gs_trace.specs.Scans.{event_told}
 use Rattle.gs_trace.specs.declared.scan.Next.{Next}
 use Rattle.gs_audit.proofs.auditing.Auditing.step.Goals as goal

@@ -1,7 +1,7 @@
 use Rattle.std.proofs.Common.{◌≡◌, ◌∙◌, rules, sym, true}
 use Rattle.gs_steer.specs.Modes.{following_mode}
 use Rattle.gs_core.specs.Node.{clock_of, maximum_of}
-use Rattle.gs_core.specs.Quiet.{is_quiet}
+use Rattle.gs_core.specs.inside.Quiet.{is_quiet}
 use Rattle.gs_core.proofs.Quieting.{quiet_mode}
 use Rattle.gs_core.proofs.node.Core.decide.Goals as goal
 

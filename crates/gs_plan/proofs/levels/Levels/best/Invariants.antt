@@ -1,6 +1,6 @@
 use Rattle.std.proofs.Common.{◌≡◌, ◌+◌, ◌*◌}
 use Rattle.gs_plan.specs.Levels.{best_of}
-use Rattle.gs_units.specs.Levels.{bound_at}
+use Rattle.gs_units.specs.Rates.{bound_at}
 use Rattle.gs_plan.proofs.levels.Levels.best.Given as goal
 
 abbrev pub invariant-loop-below : goal.invariant-loop-below

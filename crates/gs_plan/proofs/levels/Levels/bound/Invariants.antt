@@ -1,5 +1,5 @@
 use Rattle.std.proofs.Common.{◌≡◌, ◌+◌, ◌*◌, ◌<◌, ◌^◌}
-use Rattle.gs_units.specs.Levels.{bound_at}
+use Rattle.gs_units.specs.Rates.{bound_at}
 use Rattle.gs_plan.proofs.levels.Levels.bound.Given as goal
 
 abbrev pub invariant-loop-level : goal.invariant-loop-level

@@ -3,7 +3,7 @@ use Rattle.std.proofs.lemmas.Result.{err_from_is_err_and}
 use Rattle.gs_run.specs.Nets.{net_of}
 use Rattle.gs_calendar.specs.Breach.{first_breach}
 use Rattle.gs_calendar.specs.Stops.{StopsAt}
-use Rattle.gs_rows.specs.Onward.{left_of}
+use Rattle.gs_rows.specs.inside.Onward.{left_of}
 use Rattle.gs_rows.proofs.Fields.{is_over, one_more, passes_quantum, stops}
 use Rattle.gs_rows.proofs.rows.Rows.next.Goals as goal
 

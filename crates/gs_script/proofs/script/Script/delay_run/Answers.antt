@@ -1,5 +1,5 @@
 use Rattle.std.proofs.Common.{arith, subst}
-use Rattle.gs_script.specs.Kept.{delay_set, least_between}
+use Rattle.gs_script.specs.inside.Kept.{delay_set, least_between}
 use Rattle.gs_script.specs.Lines.{delay_said}
 use Rattle.gs_script.specs.Script.{IsScript}
 use Rattle.gs_script.proofs.Numbers.{delay_read, said_lasts}

@@ -1,5 +1,5 @@
 use Rattle.std.proofs.Common.{arith, subst}
-use Rattle.gs_script.specs.Kept.{gap_set}
+use Rattle.gs_script.specs.inside.Kept.{gap_set}
 use Rattle.gs_script.specs.Lines.{gap_said}
 use Rattle.gs_script.specs.Script.{IsScript}
 use Rattle.gs_script.proofs.Numbers.{gap_read, said_lasts}

@@ -1,5 +1,5 @@
 use Rattle.std.proofs.Common.{arith, subst}
-use Rattle.gs_script.specs.Kept.{inc_set}
+use Rattle.gs_script.specs.inside.Kept.{inc_set}
 use Rattle.gs_script.specs.Lines.{inc_said}
 use Rattle.gs_script.specs.Script.{IsScript}
 use Rattle.gs_script.proofs.Numbers.{inc_read, said_lasts}

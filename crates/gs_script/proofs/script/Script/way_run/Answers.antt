@@ -1,5 +1,5 @@
 use Rattle.std.proofs.Common.{arith, false}
-use Rattle.gs_script.specs.Kept.{is_lost_set}
+use Rattle.gs_script.specs.inside.Kept.{is_lost_set}
 use Rattle.gs_script.specs.Lines.{loss_said}
 use Rattle.gs_script.specs.Script.{delay_of}
 use Rattle.gs_script.proofs.Numbers.{loss_read, said_lasts, shorter}

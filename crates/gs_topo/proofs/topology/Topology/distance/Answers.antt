@@ -1,7 +1,7 @@
 use Rattle.std.proofs.Common.{rules, ◌≡◌, ◌∙◌, ◌*◌, ◌+◌, ◌<◌, ap, slice_index, length}
 use Rattle.std.proofs.lemmas.List.{get_or_read}
 use Rattle.gs_topo.specs.Graph.{Graph}
-use Rattle.gs_topo.specs.Kept.{AreKept}
+use Rattle.gs_topo.specs.inside.Kept.{AreKept}
 use Rattle.gs_topo.specs.Walks.{distance_of}
 use Rattle.gs_topo.proofs.Distances.{is_below, is_least}
 use Rattle.gs_topo.proofs.Tables.{entry_is}

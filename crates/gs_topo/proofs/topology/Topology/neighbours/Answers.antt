@@ -1,6 +1,6 @@
 use Rattle.std.proofs.Common.{rules, ◌≡◌, ◌∙◌, ◌<◌, ap, length}
 use Rattle.gs_topo.specs.Graph.{Graph}
-use Rattle.gs_topo.specs.Kept.{AreKept}
+use Rattle.gs_topo.specs.inside.Kept.{AreKept}
 use Rattle.gs_topo.proofs.Tables.{list_is}
 use Rattle.gs_topo.proofs.topology.Topology.neighbours.Goals as goal
 

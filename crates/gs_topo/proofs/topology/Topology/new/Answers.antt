@@ -5,7 +5,7 @@ use Rattle.gs_topo.specs.declared.fault.TopoFault.{TopoFault}
 use Rattle.gs_topo.specs.declared.fault.TopoFault.TheVariants.{OutOfMemory, Split}
 use Rattle.gs_topo.specs.Faults.{edges_fault}
 use Rattle.gs_topo.specs.Graph.{Graph, graph_of, joined, neighbours_of}
-use Rattle.gs_topo.specs.Kept.{AreKept, HasFlags}
+use Rattle.gs_topo.specs.inside.Kept.{AreKept, HasFlags}
 use Rattle.gs_topo.specs.Walks.{IsGraph, IsSplitAt}
 use Rattle.gs_topo.proofs.Sound.{IsSearched, edges_are, lists_are, lists_below, no_edges_split, none_found, split_found, split_is}
 use Rattle.gs_topo.proofs.Tables.{diameter_is}

@@ -2,7 +2,7 @@ use Rattle.std.proofs.Common.{refl, ◌≡◌, ◌*◌, ◌+◌, ◌<◌, ap, le
 use Rattle.std.proofs.lemmas.List.{get_or_read}
 use Rattle.std.proofs.lemmas.Nat.{mul-add-lt}
 use Rattle.gs_topo.specs.Walks.{IsGraph, distance_of}
-use Rattle.gs_topo.specs.Weighted.{AreRows, AreWeights}
+use Rattle.gs_topo.specs.inside.Weighted.{AreRows, AreWeights}
 use Rattle.gs_topo.specs.Weights.{Lengths}
 use Rattle.gs_topo.specs.declared.weights.Table.TheVariants.{Each, Even}
 use Rattle.gs_topo.proofs.LeastSums.{scaled_least}

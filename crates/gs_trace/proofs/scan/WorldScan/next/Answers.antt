@@ -1,7 +1,7 @@
 use Rattle.std.proofs.Common.{rules, ◌≡◌, ◌<◌, ◌∷◌, ◌-◌, ◌∙◌, ap, sym, subst, length, take, drop, ℕ, List, Some}
 use Rattle.std.specs.Prelude.{slice_index}
 use Rattle.gs_core.specs.declared.event.Event.{Event}
-use Rattle.gs_trace.specs.Fronts.{BeginsWhole}
+use Rattle.gs_trace.specs.inside.Fronts.{BeginsWhole}
 use Rattle.gs_trace.specs.Scans.{event_told, WorldLeft}
 use Rattle.gs_trace.specs.Worlds.{event_bytes, event_of, Fits, size_of, world_events, world_format}
 use Rattle.gs_trace.proofs.Scanning.{begins_whole, goes_on, takes_first}

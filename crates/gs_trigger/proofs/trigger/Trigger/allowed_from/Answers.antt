@@ -1,7 +1,7 @@
 use Rattle.std.proofs.Common.{◌≡◌, rules, FitsSigned}
 use Rattle.std.specs.Int.{w128}
 use Rattle.std.proofs.lemmas.Int.{to_z-of_z}
-use Rattle.gs_trigger.specs.Sides.{lead_of}
+use Rattle.gs_trigger.specs.inside.Sides.{lead_of}
 use Rattle.gs_trigger.proofs.Leads.{Allows-from_lead, lead-from_Allows}
 use Rattle.gs_trigger.proofs.trigger.Trigger.allowed_from.Goals as goal
 

@@ -5,8 +5,8 @@ use Rattle.gs_beacon.specs.declared.beacon.Beacon.{Beacon}
 use Rattle.gs_core.specs.declared.event.Event.TheVariants.{Deliver}
 use Rattle.gs_units.specs.declared.params.NodeParams.{NodeParams}
 use Rattle.gs_topo.specs.Graph.{Graph}
-use Rattle.gs_world.specs.Admitted.{IsAdmitted}
-use Rattle.gs_world.specs.Delays.{delay_of}
+use Rattle.gs_world.specs.inside.Admitted.{IsAdmitted}
+use Rattle.gs_world.specs.inside.Delays.{delay_of}
 use Rattle.gs_run.specs.Net.{link_of, neighbours, place_of}
 use Rattle.gs_run.specs.Nets.{net_of}
 use Rattle.gs_world.specs.Placed.{Placed}

@@ -1,6 +1,6 @@
 use Rattle.std.proofs.Common.{◌≡◌, ◌∙◌, arith, length, None, Some, subst, sym}
 use Rattle.std.proofs.lemmas.Result.{err_from_is_err_and}
-use Rattle.gs_world.specs.Late.{due_in, stale_in}
+use Rattle.gs_world.specs.inside.Late.{due_in, stale_in}
 use Rattle.std.proofs.lemmas.List.Quantifiers.{position-Some}
 use Rattle.gs_core.specs.declared.event.Event.TheVariants.{Quantum}
 use Rattle.gs_run.specs.Nets.{net_of}

@@ -1,6 +1,6 @@
 use Rattle.std.proofs.Common.{◌≡◌, ◌+◌, ◌<◌, ◌∙◌, ap, arith, subst, None, Some}
 use Rattle.gs_planfile.specs.declared.text.PlanText.{PlanText}
-use Rattle.gs_world.specs.Late.{IsNoneDueBefore, due_in}
+use Rattle.gs_world.specs.inside.Late.{IsNoneDueBefore, due_in}
 use Rattle.gs_run.specs.Nets.{net_of}
 use Rattle.gs_world.specs.Placed.{Placed}
 use Rattle.gs_world.specs.Seen.{world_in}

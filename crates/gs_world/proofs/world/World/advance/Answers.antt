@@ -5,7 +5,7 @@ use Rattle.gs_world.specs.Placed.{Placed}
 use Rattle.gs_world.specs.Seen.{world_in}
 use Rattle.gs_run.specs.World.{effect}
 use Rattle.gs_run.specs.Fast.{is_fast}
-use Rattle.gs_world.specs.Members.{AreSlowClocks, IsReadable, advance_members, clock_at, sums}
+use Rattle.gs_world.specs.inside.Members.{AreSlowClocks, IsReadable, advance_members, clock_at, sums}
 use Rattle.gs_world.specs.declared.member.Member.{Member as Seat}
 use Rattle.gs_world.proofs.Advancing.{advances, after_quantum, clocks_may, may_inside, seats_next}
 use Rattle.gs_world.proofs.Placing.{count_inside, seat_at}

@@ -1,6 +1,6 @@
 use Rattle.std.proofs.Common.{◌≡◌, ◌<◌, ◌∙◌, ap, arith, sym, subst, length, List, Option, None, Some, slice_index, ℕ}
 use Rattle.gs_topo.specs.Graph.{Graph, neighbours_of}
-use Rattle.gs_world.specs.Late.{stale_in}
+use Rattle.gs_world.specs.inside.Late.{stale_in}
 use Rattle.gs_run.specs.Net.{neighbours}
 use Rattle.gs_run.specs.Nets.{net_of}
 use Rattle.gs_world.specs.Placed.{Placed}

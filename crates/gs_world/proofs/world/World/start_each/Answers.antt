@@ -5,7 +5,7 @@ use Rattle.std.proofs.lemmas.List.FromFn.{length-map-range_with_len}
 use Rattle.gs_topo.specs.Graph.{Graph}
 use Rattle.gs_run.specs.Fast.{is_fast}
 use Rattle.gs_run.specs.Nets.{net_of}
-use Rattle.gs_world.specs.Members.{IsMember, member_of}
+use Rattle.gs_world.specs.inside.Members.{IsMember, member_of}
 use Rattle.gs_run.specs.World.{Member, World, clocks_in, member_at_start}
 use Rattle.gs_world.specs.declared.member.Member.{Member as Seat}
 use Rattle.gs_world.proofs.Starting.{clocks_at_start, members_more, none_starts_fast, seats_more, start_reached}

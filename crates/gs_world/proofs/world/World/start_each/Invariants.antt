@@ -1,7 +1,7 @@
 use Rattle.std.proofs.Common.{◌≡◌, ℕ, ◌<◌, length, map, slice_index, slice_index_or}
 use Rattle.std.specs.List.{range_with_len}
 use Rattle.gs_run.specs.Nets.{net_of}
-use Rattle.gs_world.specs.Members.{IsMember, member_of}
+use Rattle.gs_world.specs.inside.Members.{IsMember, member_of}
 use Rattle.gs_run.specs.World.{member_at_start}
 use Rattle.gs_world.specs.declared.member.Member.{Member as Seat}
 use Rattle.gs_world.proofs.world.World.start_each.Given as goal

@@ -13,7 +13,7 @@ use Rattle.gs_calendar.specs.Course.{Course}
 use Rattle.gs_calendar.specs.Calendar.{turn, first_turn}
 use Rattle.gs_calendar.specs.Events.{events_from}
 use Rattle.gs_calendar.specs.Due.{due_by, due_after, key_cmp}
-use Rattle.gs_calendar.specs.Transits.{Has, AreInOrder, Comes, InTransit, IsCovering}
+use Rattle.gs_calendar.specs.inside.Transits.{Has, AreInOrder, Comes, InTransit, IsCovering}
 
 -- what is in transit to node v
 abbrev pub waiting : List (List Key) → ℕ → List Key

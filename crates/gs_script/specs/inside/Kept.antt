@@ -15,7 +15,7 @@ use Rattle.gs_script.specs.declared.line.Part.{Part}
 use Rattle.gs_script.specs.declared.line.Part.TheVariants as part
 use Rattle.gs_script.specs.declared.line.Span.{Span}
 use Rattle.gs_script.specs.declared.run.Run.{Run}
-use Rattle.gs_script.specs.Runs.{value_at}
+use Rattle.gs_script.specs.inside.Runs.{value_at}
 use Rattle.gs_script.specs.declared.line.Who.{Who}
 use Rattle.gs_script.specs.declared.line.Who.TheVariants.{Every, One}
 use Rattle.gs_script.specs.declared.kept.BeaconRuns.{BeaconRuns}

@@ -5,7 +5,7 @@ use Rattle.gs_plan.specs.declared.plan.Plan.{Plan}
 use Rattle.gs_core.specs.declared.event.Event.{Event}
 use Rattle.gs_trace.specs.declared.start.WorldStart.{WorldStart}
 use Rattle.gs_run.specs.Nets.{net_of}
-use Rattle.gs_audit.specs.UnderWay.{IsUnderWay}
+use Rattle.gs_audit.specs.inside.UnderWay.{IsUnderWay}
 use Rattle.gs_audit.specs.Verdicts.{world_at}
 use Rattle.gs_audit.specs.declared.auditing.Auditing.{Auditing}
 

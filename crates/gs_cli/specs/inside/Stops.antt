@@ -1,7 +1,7 @@
 -- How a command stops or ends, by its answer. These facts are for private functions and proofs.
 use Rattle.std.specs.Prelude.{◌≡◌, Result, Ok, Err, ⊤}
 use Rattle.gs_cli.specs.Answers.{Answer}
-use Rattle.gs_cli.specs.Reply.{answer_in}
+use Rattle.gs_cli.specs.inside.Reply.{answer_in}
 use Rattle.gs_cli.specs.declared.reply.Reply.{Reply}
 use Rattle.gs_cli.specs.declared.stop.Stop.{Stop}
 use Rattle.gs_cli.specs.declared.stop.Stop.TheVariants.{Refused, OutOfMemory}

@@ -3,7 +3,7 @@
 use Rattle.std.specs.Prelude.{◌≡◌, ℕ, ◌+◌, ◌<◌, ◌≤◌, ◌^◌, Bool, false, if◌then◌else◌, List, length, map, slice_index, slice_index_or}
 use Rattle.std.specs.List.{zip}
 use Rattle.gs_core.specs.Node.{clock_of}
-use Rattle.gs_world.specs.Delays.{delay_of}
+use Rattle.gs_world.specs.inside.Delays.{delay_of}
 use Rattle.gs_run.specs.Fast.{is_fast}
 use Rattle.gs_run.specs.Net.{Net, params_of, neighbours}
 use Rattle.gs_run.specs.World.{Member}

@@ -1,8 +1,7 @@
 -- Both triggers as one, by its side. These facts are for private functions and proofs.
 use Rattle.std.specs.Prelude.{ℕ, ℤ, neg_ℤ, ◌≤◌, List, Bool, ◌&&◌, Option, All, Any}
 use Rattle.std.specs.List.{list_any, list_all}
-use Rattle.gs_trigger.specs.Sights.{Sight}
-use Rattle.gs_trigger.specs.Triggers.{odd_level, even_level, least_from, highest}
+use Rattle.gs_trigger.specs.Triggers.{Sight, odd_level, even_level, least_from, highest}
 use Rattle.gs_trigger.specs.Triggers.{IsFarAhead, IsNotTooFarBehind, IsFarBehind, IsNotTooFarAhead}
 use Rattle.gs_trigger.specs.Triggers.{is_far_ahead, is_not_too_far_behind, is_far_behind, is_not_too_far_ahead}
 use Rattle.gs_trigger.specs.declared.trigger.Trigger.{Trigger}

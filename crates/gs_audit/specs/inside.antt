@@ -1,0 +1,5 @@
+-- What private functions and proofs speak of: no public contract rests on it.
+pub mod UnderWay
+pub mod Refusing
+pub mod Running
+pub mod NodeRunning
