@@ -1,3 +1,4 @@
+-- The lines of a text.
 use Rattle.std.proofs.Common.{◌≡◌, ◌+◌, ◌≤◌, ◌==◌, ℕ, List, [], ◌∷◌, length, take, Some, None, Bool, true, false, refl, sym, ap, suc, arith}
 use Rattle.std.specs.List.{position, position_or_len}
 use Rattle.std.specs.Io.BufRead.{take_through}

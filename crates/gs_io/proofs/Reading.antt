@@ -1,3 +1,4 @@
+-- What is read under a limit.
 use Rattle.std.proofs.Common.{◌≡◌, ℕ, ◌+◌, ◌-◌, ◌^◌, ◌<◌, ◌≤◌, List, length, take, min, Option, Some, None, IfSome, option_map, arith, refl, ◌∙◌}
 use Rattle.std.proofs.lemmas.List.{length-take, take_all}
 

@@ -1,3 +1,4 @@
+-- Counts of faults: what it is that one rose.
 use Rattle.std.specs.Prelude.{ℕ, ◌+◌, ◌-◌, ◌^◌, ◌<◌, ◌≤◌, ◌==◌, ◌⊎◌, min, Bool, List, Result, IsErr}
 use Rattle.std.specs.List.{list_any}
 

@@ -1,3 +1,4 @@
+-- Each fault of a reading is one of the value at its key.
 use Rattle.std.proofs.Common.{◌≡◌, ◌≢◌, ◌∙◌, ap, sym, subst, refl, ℕ, pos, negsuc, List, [], ◌∷◌, ◌++◌, ◌^◌, ◌==◌, Bool, true, false, nat_lt, is_some, Option, Some, None, Result, Ok, Err}
 use Rattle.std.specs.Prelude.{codes, IfErr, MatchResult, ⊤, if◌then◌else◌}
 use Rattle.std.specs.List.{AllByRecursion, list_all}

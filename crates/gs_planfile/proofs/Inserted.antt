@@ -1,3 +1,4 @@
+-- Look-ups in a table into which a key was put.
 use Rattle.std.proofs.Common.{Ordering, Less, Equal, Greater, ◌≡◌, ◌∙◌, ap, sym, refl, ℕ, List, Bool, true, false, ◌||◌, is_eq, nat_cmp, Option, Some, None, String, string_bytes, Global, [], ◌∷◌}
 use Rattle.std.specs.Cmp.Lexicographic.{slice_cmp}
 use Rattle.std.specs.Prelude.{if◌then◌else◌}

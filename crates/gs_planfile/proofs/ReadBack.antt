@@ -1,3 +1,4 @@
+-- What a plan that was written is read back as.
 use Rattle.std.proofs.Common.{arith, ◌≡◌, ◌<◌, ◌^◌, ◌==◌, refl, ℕ, pos, List, [], ◌∷◌, map, length, Bool, true, false, not, Option, Some, None, Ok}
 use Rattle.std.specs.Prelude.{codes, if◌then◌else◌, IfSome}
 use Rattle.std.proofs.lemmas.Bool.{lt-ltb}

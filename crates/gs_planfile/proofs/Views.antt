@@ -1,3 +1,4 @@
+-- Tests of the values of an array, on its view.
 use Rattle.std.proofs.Common.{ℕ, suc, ◌+◌, ◌<◌, ◌≤◌, ◌≡◌, ap, sym, refl, true, false, Bool, ◌&&◌, ◌||◌, ◌==◌, List, [], ◌∷◌, ◌++◌, map, drop, length, get_or, append_assoc, Result, Ok, Err, String, string_bytes, Global, Vec}
 use Rattle.std.specs.Prelude.{IsUtf8}
 use Rattle.std.specs.List.{list_all, list_any}

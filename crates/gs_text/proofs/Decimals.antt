@@ -1,3 +1,4 @@
+-- Digits and their value.
 use Rattle.std.proofs.Common.{◌≡◌, ◌+◌, ◌<◌, ◌≤◌, ◌^◌, ℕ, List, [], ◌∷◌, length, get_or, decimal, true, Option, Some, None, Result, Ok, Err, IfSome, arith, rules, refl, sym}
 use Rattle.std.specs.Char.{is_ascii_digit}
 use Rattle.std.specs.List.{list_all}

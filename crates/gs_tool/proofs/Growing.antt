@@ -1,3 +1,4 @@
+-- Texts of one level and of one edge more.
 use Rattle.std.proofs.Common.{◌≡◌, ℕ, suc, ◌+◌, List, Option, Some, IfSome, slice_get, arith, refl, subst}
 use Rattle.gs_plan.specs.declared.edge.EdgeNumbers.{EdgeNumbers}
 use Rattle.gs_plan.specs.Bounds.{best_edge_in}

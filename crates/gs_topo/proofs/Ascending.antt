@@ -1,3 +1,4 @@
+-- The edges of a graph that was given by any list: ascending, upright, and joining what the list joins.
 use Rattle.std.proofs.Common.{◌≡◌, ℕ, zero, suc, ◌+◌, ◌-◌, ◌<◌, ◌≤◌, ◌⊎◌, ◌&&◌, ◌==◌, inl, inr, arith, sym, refl, ◌∙◌, List, [], ◌∷◌, ◌++◌, map, filter, cond, Bool, true, false, All, AllPairs}
 use Rattle.std.specs.List.{Contains, flat_map, range_with_len}
 use Rattle.std.proofs.lemmas.Bool.{cases_order, cases_lt, eqb-true, eq-eqb, and_parts, and_from, or_cases, or_left, or_right}
@@ -5,8 +6,6 @@ use Rattle.std.proofs.lemmas.List.Elements.{All-nil, All-head, All-tail, All-map
 use Rattle.gs_topo.specs.Graph.{IsBefore, joins, joined, adjacent, pairs_below, graph_of}
 use Rattle.gs_topo.proofs.Members.{Contains-filter, Contains-map, Contains-range, range_below, member-from_list_any, list_any-from_member, member_cases}
 use Rattle.gs_topo.proofs.Distances.{joined-turned}
-
--- The edges of a graph that was given by any list: ascending, upright, and joining what the list joins.
 
 -- each pair stands before those after it
 pub Ascends : List (ℕ × ℕ) → Type 0

@@ -1,3 +1,4 @@
+-- Distances by walks, of graphs in which walks lead everywhere.
 use Rattle.std.proofs.Common.{◌≡◌, ◌≢◌, ℕ, zero, suc, ◌+◌, ◌-◌, ◌<◌, ◌≤◌, ◌⊎◌, ◌&&◌, ◌==◌, inl, inr, arith, ap, sym, refl, ◌∙◌, List, [], ◌∷◌, ◌++◌, Bool, true, false, Some, None, ltb, cond}
 use Rattle.std.specs.List.{range_with_len}
 use Rattle.std.proofs.lemmas.Bool.{cases_eq, cases_lt, eqb-true, eq-eqb, and_parts, and_from, cases_Bool, false_from_ne_true, le-ltb, lt-ltb, or_cases, or_left, or_right}
@@ -8,8 +9,6 @@ use Rattle.gs_topo.specs.Laws.{AreLeastSums, AreMetric}
 use Rattle.gs_topo.proofs.Weighing.{least_sums_weigh}
 use Rattle.gs_topo.proofs.Members.{Contains-range, range_below, list_any-from_member, member-from_list_any}
 use Rattle.gs_topo.proofs.Walks.{walk_append, length_of-append, below_walks}
-
--- Distances by walks, of graphs in which walks lead everywhere.
 
 -- The first number that passes is what the search finds.
 from_or_later : (from s : ℕ) → from ≤ s → (from ≡ s) ⊎ (from + 1 ≤ s)

@@ -1,3 +1,4 @@
+-- The faults of edges, edge by edge: the steps of the loop over them.
 use Rattle.std.proofs.Common.{◌≡◌, ℕ, ◌+◌, ◌*◌, ◌<◌, ◌≤◌, ◌||◌, ◌&&◌, ◌==◌, ◌⊎◌, inl, inr, sym, refl, ◌∙◌, List, length, take, drop, get_or, Bool, true, false, Some, None}
 use Rattle.std.proofs.lemmas.List.{drop_all, drop_more, take_more}
 use Rattle.std.proofs.lemmas.List.Folds.{list_any_more}
@@ -7,7 +8,6 @@ use Rattle.gs_topo.specs.Faults.{edge_fault, edges_fault}
 use Rattle.gs_topo.specs.Graph.{joined, joins}
 use Rattle.gs_topo.specs.inside.Kept.{HasFlags, flag_at}
 
--- The steps of the loop over the edges.
 pub edges_fault-end : (n i : ℕ) (es : List (ℕ × ℕ)) → length es ≤ i → edges_fault n (take i es) i (drop i es) ≡ None
 unfolding edges_fault
 edges_fault-end n i es h = rw (drop_all i es h)

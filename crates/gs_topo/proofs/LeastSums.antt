@@ -1,3 +1,4 @@
+-- Tables of weights: by a search, and of equal lengths.
 use Rattle.std.proofs.Common.{◌≡◌, ℕ, ◌+◌, ◌*◌, ◌<◌, ◌≤◌, ◌^◌, inl, inr, arith, ap, sym, refl, ◌∙◌, List, [], ◌++◌, length, map, Bool, true, false, All, slice_index, get_or, get_or-append-add, length-append, Option, Some, None}
 use Rattle.std.specs.List.{range_with_len, list_any, position, position_or_len}
 use Rattle.std.specs.Option.{option_map_or}
@@ -16,8 +17,6 @@ use Rattle.gs_topo.specs.inside.Weighted.{AreRows}
 use Rattle.gs_topo.proofs.Members.{member-from_list_any}
 use Rattle.gs_topo.proofs.Walks.{below_walks, sum_is_small, sum_of_equal}
 use Rattle.gs_topo.proofs.Distances.{is_least, is_below}
-
--- Tables of weights: by a search, and of equal lengths.
 
 -- a length is that of an edge, or 0
 between_small : (lengths : List ℕ) (o : Option ℕ) → ((i : ℕ) → slice_index lengths i < 2 ^ 64) → option_map_or (slice_index lengths) o 0 ≤ 2 ^ 64

@@ -1,3 +1,4 @@
+-- A search by levels, whose pending nodes are what is left of a queue.
 use Rattle.std.proofs.Common.{◌≡◌, ℕ, zero, suc, ◌+◌, ◌<◌, ◌≤◌, arith, ap, refl, ◌∙◌, List, [], ◌∷◌, All, drop, length, map, slice_index, slice_index_or, get_or, filter}
 use Rattle.std.specs.List.{range_with_len}
 use Rattle.std.proofs.lemmas.List.{drop_more, get_or_read}
@@ -9,8 +10,6 @@ use Rattle.gs_topo.specs.Walks.{one_each}
 use Rattle.gs_topo.specs.declared.steps.Step.{Step}
 use Rattle.gs_topo.proofs.Relaxing.{IsTried, all_behind, are_reached, rest_of}
 use Rattle.gs_topo.proofs.Searching.{IsUnderWay, IsWithin, ends, goes_on, stays_within}
-
--- A search by levels, whose pending nodes are what is left of a queue.
 
 -- what is read of the tables at a place of the queue
 pub record IsRead (lists : List (List ℕ)) (levels queue : List ℕ) (next node here : ℕ) (nodes : List ℕ) : Type 0 where

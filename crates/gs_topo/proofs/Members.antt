@@ -1,10 +1,9 @@
+-- Members of lists that are made by a filter, a map or a range.
 use Rattle.std.proofs.Common.{◌≡◌, ℕ, ◌+◌, ◌-◌, ◌<◌, ◌≤◌, ◌⊎◌, inl, inr, arith, ap, sym, refl, ◌∙◌, List, [], ◌∷◌, length, map, cond, Bool, true, false, All, filter}
 use Rattle.std.specs.List.{Contains, range_with_len, list_any}
 use Rattle.std.proofs.lemmas.List.Elements.{Contains-append_left, Contains-append_right, Contains-append_cases, Contains-push, Contains-push_cases}
 use Rattle.std.proofs.lemmas.List.FromFn.{length-range_with_len, get_or-range_with_len}
 use Rattle.std.proofs.lemmas.List.Folds.{list_any_at, Any-from_list_any}
-
--- Members of lists that are made by a filter, a map or a range.
 
 -- nothing is in an empty list, and one thing in a list of one
 pub none : {X : Type 0} (y : X) → Contains [] y → ⊥

@@ -1,3 +1,4 @@
+-- Neighbours, and steps towards a node.
 use Rattle.std.proofs.Common.{◌≡◌, ◌≢◌, ℕ, zero, suc, ◌+◌, ◌<◌, ◌≤◌, ◌==◌, inl, inr, arith, sym, refl, ◌∙◌, List, [], ◌∷◌, length, filter, cond, Bool, true, false, All, Some, None, get_or, slice_index}
 use Rattle.std.specs.List.{range_with_len, position}
 use Rattle.std.proofs.lemmas.Bool.{cases_eq, cases_lt, eq-eqb, ne_eqb, lt-ltb, le-ltb}
@@ -11,8 +12,6 @@ use Rattle.gs_topo.proofs.Members.{Contains-filter, Contains-range, member-from_
 use Rattle.gs_topo.proofs.Ascending.{joins-cases}
 use Rattle.gs_topo.proofs.Distances.{is_least, both_ways}
 use Rattle.gs_topo.proofs.Weighing.{least_sums_weigh}
-
--- Neighbours, and steps towards a node.
 
 -- no node is its own neighbour
 no_own : (g : Graph) → IsGraph g → (v : ℕ) → Adjacent g v v → ⊥

@@ -1,3 +1,4 @@
+-- The number of an edge, as a binary search for the pair with its lower end first finds it.
 use Rattle.std.proofs.Common.{◌≡◌, ℕ, ◌+◌, ◌<◌, ◌&&◌, ◌==◌, min, max, inl, inr, arith, sym, refl, ◌∙◌, List, length, All, AllPairs, true, false, Some, None, get_or}
 use Rattle.std.specs.List.{HoldsAt, position}
 use Rattle.std.specs.List.Sorted.{IsBinarySearchResult, IsPartitionPoint, IsSearchInRange}
@@ -12,8 +13,6 @@ use Rattle.std.proofs.lemmas.List.Sorted.{searchable_from_sorted}
 use Rattle.gs_topo.specs.Graph.{IsBefore, joins}
 use Rattle.gs_topo.proofs.Ascending.{joins-cases}
 use Rattle.gs_topo.proofs.Nearer.{position_at, position_nowhere}
-
--- The number of an edge, as a binary search for the pair with its lower end first finds it.
 
 abbrev pub pair_cmp : ℕ × ℕ → ℕ × ℕ → Ordering
 pair_cmp a b = ordering_then (nat_cmp a.0 b.0) (nat_cmp a.1 b.1)

@@ -1,3 +1,4 @@
+-- What the tries of a search leave.
 use Rattle.std.proofs.Common.{◌≡◌, ℕ, ◌+◌, ◌*◌, ◌<◌, ◌≤◌, ◌⊎◌, ◌==◌, inl, inr, arith, ap, sym, refl, ◌∙◌, List, [], ◌∷◌, ◌++◌, length, drop, All, Bool, true, false, slice_index, slice_set, get_or-set_same, get_or-set_other, sum, ltb, if◌then◌else◌}
 use Rattle.std.specs.List.{Contains}
 use Rattle.std.proofs.Math.ListN.{length-set}
@@ -8,8 +9,6 @@ use Rattle.std.proofs.lemmas.Bool.{eq-eqb, ltb-true, ltb-false, cases_eq}
 use Rattle.gs_topo.proofs.Members.{none, only}
 use Rattle.gs_topo.specs.inside.Search.{Trial, reached, all_reached, tried, all_tried, far_sum, steps_over, AreInside}
 use Rattle.gs_topo.specs.declared.steps.Step.{Step}
-
--- What the tries of a search leave.
 
 -- After a trial of steps from a node of the sum `here` no sum has risen, what became less is pending, and each sum is the old
 -- one or that of a step.

@@ -1,3 +1,4 @@
+-- A search for least sums, by steps that are tried: what it keeps, how it begins, goes on and ends.
 use Rattle.std.proofs.Common.{◌≡◌, ℕ, ◌+◌, ◌<◌, ◌≤◌, ◌⊎◌, inl, inr, arith, ap, sym, refl, ◌∙◌, List, [], ◌∷◌, ◌++◌, length, Bool, IsTrue, slice_index, get_or, All, filter, replicate, get_or-set_same, get_or-set_other}
 use Rattle.std.specs.List.{Contains, range_with_len}
 use Rattle.std.proofs.Math.ListN.{length-set, length-replicate, set}
@@ -12,8 +13,6 @@ use Rattle.gs_topo.specs.declared.steps.Step.{Step}
 use Rattle.gs_topo.proofs.Walks.{walk_append, length_of-append}
 use Rattle.gs_topo.proofs.Relaxing.{IsTried, IsOrdered, still_ordered}
 use Rattle.gs_topo.proofs.Members.{Contains-filter, Contains-map, Contains-range, range_below, none, only, member_cases, head_member, tail_member}
-
--- A search for least sums, by steps that are tried: what it keeps, how it begins, goes on and ends.
 
 -- what keeps each read of the search within its tables
 pub record IsWithin (n far : ℕ) (t : Trial) : Type 0 where

@@ -1,3 +1,4 @@
+-- A search for least sums that tries a pending node of the least sum next.
 use Rattle.std.proofs.Common.{◌≡◌, ℕ, ◌+◌, ◌*◌, ◌<◌, ◌≤◌, arith, ap, ◌∙◌, List, [], ◌∷◌, All, Bool, length, slice_index, slice_index_or, get_or, sum}
 use Rattle.std.specs.List.Sorted.{IsPermutation}
 use Rattle.std.specs.List.{swap_remove}
@@ -9,8 +10,6 @@ use Rattle.gs_topo.specs.declared.steps.Step.{Step}
 use Rattle.gs_topo.proofs.Members.{tail_member}
 use Rattle.gs_topo.proofs.Relaxing.{IsTried, IsOrdered, are_tried}
 use Rattle.gs_topo.proofs.Searching.{IsSettled, IsUnderWay, IsWithin, all_by, goes_on, order_of, settled_in, stays_settled, stays_within, under_way_in, within_in}
-
--- A search for least sums that tries a pending node of the least sum next.
 
 -- what is read of the tables at such a node
 pub record IsPick (all : List (List Step)) (sums pending : List ℕ) (place node here : ℕ) (steps : List Step) : Type 0 where

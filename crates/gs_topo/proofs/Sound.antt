@@ -1,3 +1,4 @@
+-- What a list of edges without a fault makes.
 use Rattle.std.proofs.Common.{◌≡◌, ◌≢◌, ℕ, ◌+◌, ◌*◌, ◌<◌, ◌≤◌, ◌⊎◌, ◌&&◌, ◌==◌, nat_lt, not, inl, inr, arith, ap, sym, refl, ◌∙◌, List, [], ◌∷◌, ◌++◌, length, map, filter, cond, if◌then◌else◌, Bool, true, false, IsTrue, All, AllPairs, get_or, ltb, slice_index, Option, Some, None, eqb, option_map}
 use Rattle.std.specs.Option.{option_or}
 use Rattle.std.specs.List.{range_with_len, IsDistinct}
@@ -22,8 +23,6 @@ use Rattle.gs_topo.proofs.Walks.{walk_append, turned, below_walks}
 use Rattle.gs_topo.proofs.Searching.{each_step}
 use Rattle.gs_topo.proofs.Distances.{IsConnected, IsLevelled, is_reached, is_not_reached, levels_below, least_from_is, least_from_none, both_ways}
 use Rattle.gs_topo.proofs.Ascending.{Ascends-filter, all_pairs, pairs_ascend, pairs_within, joins-cases, adjacent_is_joined}
-
--- What a list of edges without a fault makes.
 
 none_of : {X : Type 0} (x y : Option X) → option_or x y ≡ None → (x ≡ None) × (y ≡ None)
 none_of None y h = (refl, h)

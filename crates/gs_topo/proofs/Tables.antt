@@ -1,3 +1,4 @@
+-- What a search finds is the distances, where walks lead everywhere.
 use Rattle.std.proofs.Common.{◌≡◌, ℕ, zero, suc, ◌+◌, ◌*◌, max, fold, length-append, ◌<◌, ◌≤◌, arith, ap, ◌∙◌, List, [], ◌∷◌, length, map, Bool, slice_index, get_or, get_or-append-add}
 use Rattle.std.specs.List.{flat_map, range_with_len}
 use Rattle.std.proofs.lemmas.List.{get_or_append_left}
@@ -10,8 +11,6 @@ use Rattle.gs_topo.specs.inside.Search.{AreLevels, AreSteps, AreSums, Searched, 
 use Rattle.gs_topo.specs.declared.steps.Step.{Step}
 use Rattle.gs_topo.proofs.Walks.{below_walks}
 use Rattle.gs_topo.proofs.Distances.{is_least, is_below}
-
--- What a search finds is the distances, where walks lead everywhere.
 
 pub sums_of : (all : List (List Step)) (n source : ℕ) (adj : ℕ → ℕ → Bool) (k : ℕ → ℕ → ℕ) (sums : List ℕ) → AreSteps n adj k all → Searched all source sums → AreSums n adj k far_sum source sums
 sums_of all n source adj k sums steps searched =

@@ -1,8 +1,7 @@
+-- Walks put together and turned, and their sums.
 use Rattle.std.proofs.Common.{◌≡◌, ℕ, ◌+◌, ◌*◌, ◌<◌, ◌≤◌, arith, ap, sym, refl, subst, List, [], ◌∷◌, ◌++◌}
 use Rattle.std.proofs.Math.Nat.{mul-add}
 use Rattle.gs_topo.specs.Walks.{IsWalk, length_of}
-
--- Walks put together and turned, and their sums.
 
 -- a walk and one from its end are a walk
 pub walk_append : (adj : ℕ → ℕ → Type 0) (n : ℕ) (v w z : ℕ) (xs ys : List ℕ) → IsWalk adj n v xs w → IsWalk adj n w ys z → IsWalk adj n v (xs ++ ys) z

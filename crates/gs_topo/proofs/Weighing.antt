@@ -1,9 +1,8 @@
+-- Least sums over walks weigh the pairs, where steps go both ways at one length.
 use Rattle.std.proofs.Common.{◌≡◌, ◌≢◌, ℕ, ◌+◌, ◌<◌, ◌≤◌, arith, sym, refl, List, [], ◌∷◌, Bool, IsTrue}
 use Rattle.gs_topo.specs.Walks.{IsWalk, length_of}
 use Rattle.gs_topo.specs.Laws.{AreLeastSums, LeastSumsWeigh}
 use Rattle.gs_topo.proofs.Walks.{turned}
-
--- Least sums over walks weigh the pairs, where steps go both ways at one length.
 
 abbrev Steps : (ℕ → ℕ → Bool) → ℕ → ℕ → Type 0
 Steps adj a b = IsTrue (adj a b)

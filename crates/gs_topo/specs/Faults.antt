@@ -1,3 +1,4 @@
+-- What is wrong with a list of edges over some nodes: the first fault.
 use Rattle.std.specs.Prelude.{ℕ, ◌+◌, ◌&&◌, ◌||◌, ◌==◌, not, nat_lt, if◌then◌else◌}
 use Rattle.std.specs.Prelude.{List, [], ◌∷◌, ◌++◌, length, Option, Some, None, option_map}
 use Rattle.std.specs.Option.{option_or}
@@ -5,8 +6,6 @@ use Rattle.gs_topo.specs.declared.fault.TopoFault.{TopoFault}
 use Rattle.gs_topo.specs.declared.fault.TopoFault.TheVariants.{Count, Edges, Node, Loop, Double, Split}
 use Rattle.gs_topo.specs.Graph.{Graph, graph_of, joined}
 use Rattle.gs_topo.specs.Walks.{least_from, reaches}
-
--- What is wrong with a list of edges over some nodes: the first fault.
 
 -- what is wrong with the edge of number i, where `before` are the edges given before it
 abbrev pub edge_fault : ℕ → List (ℕ × ℕ) → ℕ → ℕ × ℕ → Option TopoFault

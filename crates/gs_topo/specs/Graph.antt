@@ -1,8 +1,7 @@
+-- Graphs over the nodes 0, 1, .., and the lists of edges that they are given by.
 use Rattle.std.specs.Prelude.{◌≡◌, ℕ, ◌+◌, ◌-◌, ◌<◌, ◌⊎◌, ◌&&◌, ◌||◌, ◌==◌, Bool, IsTrue}
 use Rattle.std.specs.Prelude.{List, Option, filter, map, position}
 use Rattle.std.specs.List.{flat_map, list_any, range_with_len}
-
--- Graphs over the nodes 0, 1, .., and the lists of edges that they are given by.
 
 -- an undirected graph: the nodes below a number, and the edges as pairs of nodes
 pub record Graph : Type 0 where

@@ -1,9 +1,8 @@
+-- The laws of least sums over walks, and of distances.
 use Rattle.std.specs.Prelude.{◌≡◌, ℕ, ◌+◌, ◌<◌, ◌≤◌, Bool, IsTrue}
 use Rattle.gs_topo.specs.Graph.{Graph}
 use Rattle.gs_topo.specs.Walks.{IsLeast, IsGraph, distance_of}
 use Rattle.gs_topo.specs.Weights.{Weighs}
-
--- The laws of least sums over walks, and of distances.
 
 -- steps go both ways at one length, and the weight of each pair is the least sum over its walks
 pub record AreLeastSums (n : ℕ) (adj : ℕ → ℕ → Bool) (k weight : ℕ → ℕ → ℕ) : Type 0 where

@@ -1,9 +1,8 @@
+-- Walks, least sums over walks, and distances. No definition here speaks of a table or a search.
 use Rattle.std.specs.Prelude.{◌≡◌, ℕ, zero, suc, ◌+◌, ◌<◌, ◌≤◌, ◌&&◌, ◌==◌, max, Bool, if◌then◌else◌}
 use Rattle.std.specs.Prelude.{List, [], ◌∷◌, All, AllPairs, fold, length, map, Option, Some, None, is_some, unwrap_or}
 use Rattle.std.specs.List.{flat_map, list_any, range_with_len}
 use Rattle.gs_topo.specs.Graph.{Graph, adjacent, Adjacent, IsBefore}
-
--- Walks, least sums over walks, and distances. No definition here speaks of a table or a search.
 
 -- a walk from v over these nodes to w
 abbrev pub IsWalk : (ℕ → ℕ → Type 0) → ℕ → ℕ → List ℕ → ℕ → Type 0

@@ -1,8 +1,7 @@
+-- Lengths of edges, and weights of pairs of nodes that fit them.
 use Rattle.std.specs.Prelude.{◌≡◌, ◌≢◌, ℕ, ◌+◌, ◌<◌, ◌≤◌, List, slice_index}
 use Rattle.std.specs.Option.{option_map_or}
 use Rattle.gs_topo.specs.Graph.{Graph, number_of}
-
--- Lengths of edges, and weights of pairs of nodes that fit them.
 
 -- a graph with a length for each edge, in the order of the edges
 pub record Lengths : Type 0 where

@@ -1,10 +1,9 @@
+-- How a topology is kept: for its private functions alone.
 use Rattle.std.specs.Prelude.{◌≡◌, ℕ, ◌*◌, ◌+◌, ◌<◌, Bool, false, List, length, map, slice_index_or}
 use Rattle.std.specs.List.{range_with_len}
 use Rattle.gs_topo.specs.Graph.{Graph, neighbours_of}
 use Rattle.gs_topo.specs.Walks.{IsGraph, distances_of, diameter_of}
 use Rattle.gs_topo.specs.declared.lists.Nodes.{Nodes}
-
--- How a topology is kept: for its private functions alone.
 
 -- the flag of v and w, in rows of n flags
 abbrev pub flag_at : List Bool → ℕ → ℕ → ℕ → Bool

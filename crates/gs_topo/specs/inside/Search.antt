@@ -1,11 +1,10 @@
+-- How the searches for levels and for least sums work: for their private functions alone.
 use Rattle.std.specs.Prelude.{◌≡◌, ℕ, ◌+◌, ◌<◌, ◌≤◌, ◌^◌, ◌==◌, nat_lt, Bool, IsTrue, if◌then◌else◌, All, fold}
 use Rattle.std.specs.Prelude.{List, [], ◌∷◌, ◌++◌, filter, length, map, slice_index, slice_index_or, slice_set}
 use Rattle.std.specs.List.{range_with_len}
 use Rattle.gs_topo.specs.declared.steps.Step.{Step}
 use Rattle.gs_topo.specs.Graph.{Graph, adjacent, neighbours_of}
 use Rattle.gs_topo.specs.Walks.{IsWalk, length_of, one_each}
-
--- How the searches for levels and for least sums work: for their private functions alone.
 
 -- a level that no node has which is reached
 abbrev pub far_level : ℕ

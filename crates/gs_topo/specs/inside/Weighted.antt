@@ -1,11 +1,10 @@
+-- How weights are kept: for their private functions alone.
 use Rattle.std.specs.Prelude.{◌≡◌, ℕ, ◌+◌, ◌*◌, ◌<◌, All, List, length, slice_index}
 use Rattle.gs_topo.specs.Graph.{Adjacent}
 use Rattle.gs_topo.specs.Walks.{IsLeast}
 use Rattle.gs_topo.specs.Weights.{Lengths, length_between}
 use Rattle.gs_topo.specs.declared.weights.Table.{Table}
 use Rattle.gs_topo.specs.declared.weights.Table.TheVariants.{Each, Even}
-
--- How weights are kept: for their private functions alone.
 
 -- a table, row by row, of the weights of the first nodes to all
 pub record AreRows (l : Lengths) (first : ℕ) (table : List ℕ) : Type 0 where
