@@ -73,7 +73,7 @@ fn best_from(plan: &Plan, clocks: &[u64], s: u32, v: u32, before: Peak) -> Peak
 }
 
 /// A peak, or that of the pair where it is greater. Most pairs are done with without their weight.
-#[tactic(auto, unfolding(crate::specs::Running::raised))]
+#[tactic(auto, unfolding(crate::specs::inside::Running::raised))]
 fn better(plan: &Plan, clocks: &[u64], s: u32, v: u32, w: u32, best: Peak) -> Peak
     requires count { length clocks.now ≡ (graph_of plan.now).nodes }
     requires nodes { (v < length clocks.now) × (w < length clocks.now) }

@@ -127,7 +127,7 @@ impl Tally {
     }
 
     /// The tally with one more row, of these skews where they are above those so far.
-    #[tactic(auto, unfolding(crate::specs::Running::added))]
+    #[tactic(auto, unfolding(crate::specs::inside::Running::added))]
     fn with(self, topo: &Topology, clocks: &[u64], global: u64, near: u64) -> Self
         requires count { length clocks.now ≡ topo.now.nodes }
         requires room { rows_in self < 2 ^ 32 - 1 }
@@ -144,7 +144,7 @@ impl Tally {
     }
 
     /// The tally with the global skew of one more row.
-    #[tactic(auto, unfolding(crate::specs::Running::raised_global))]
+    #[tactic(auto, unfolding(crate::specs::inside::Running::raised_global))]
     fn raised_global(self, seen: u64) -> Self
         ensures value { (skew : ℕ) → IsSeenAs self.global skew seen → result ≡ raised_global self skew }
         ensures near { result.near ≡ self.near }
@@ -161,7 +161,7 @@ impl Tally {
     }
 
     /// The tally with the neighbour skew of one more row.
-    #[tactic(auto, unfolding(crate::specs::Running::raised_near))]
+    #[tactic(auto, unfolding(crate::specs::inside::Running::raised_near))]
     fn raised_near(self, topo: &Topology, clocks: &[u64], seen: u64) -> Self
         requires count { length clocks.now ≡ topo.now.nodes }
         requires near { IsSeenAs self.near (near_skew topo.now.edges clocks.now) seen }

@@ -104,7 +104,7 @@ fn merged(alloc: Global, a: &[Run], b: &[Run]) -> Result<Vec<Run>, AllocError>
 }
 
 /// The runs of one record: none before its span, and its number in it.
-#[tactic(auto, using(crate::proofs::Painting::one), unfolding(crate::specs::Runs::value_or, crate::specs::Runs::Rise))]
+#[tactic(auto, using(crate::proofs::Painting::one), unfolding(crate::specs::inside::Runs::value_or, crate::specs::inside::Runs::Rise))]
 fn run_of(alloc: Global, span: Span, number: u32) -> Result<Vec<Run>, AllocError>
     requires { IsSpan span }
     ensures value { IfOk result (λ runs. (t : ℕ) → value_at runs.items t ≡ (if holds span t then number else 0)) }
@@ -123,7 +123,7 @@ fn run_of(alloc: Global, span: Span, number: u32) -> Result<Vec<Run>, AllocError
 }
 
 /// The runs of the record at a place.
-#[tactic(auto, unfolding(crate::specs::Runs::value_or, crate::specs::Runs::Rise))]
+#[tactic(auto, unfolding(crate::specs::inside::Runs::value_or, crate::specs::inside::Runs::Rise))]
 fn run_at(alloc: Global, lines: &[Line], place: u16) -> Result<Vec<Run>, AllocError>
     requires { All (λ l. IsSpan l.span) lines.now }
     ensures value { IfOk result (λ runs. (t : ℕ) → value_at runs.items t ≡ number_in t lines.now place) }
@@ -136,7 +136,7 @@ fn run_at(alloc: Global, lines: &[Line], place: u16) -> Result<Vec<Run>, AllocEr
 }
 
 /// The runs of the records at some places: those of both halves, merged.
-#[tactic(auto, using(crate::proofs::Numbers::halves), unfolding(crate::specs::Runs::value_or, crate::specs::Runs::Rise, crate::specs::Kept::greatest))]
+#[tactic(auto, using(crate::proofs::Numbers::halves), unfolding(crate::specs::inside::Runs::value_or, crate::specs::inside::Runs::Rise, crate::specs::inside::Kept::greatest))]
 fn painted(alloc: Global, lines: &[Line], places: &[u16]) -> Result<Vec<Run>, AllocError>
     requires { All (λ l. IsSpan l.span) lines.now }
     ensures value { IfOk result (λ runs. (t : ℕ) → value_at runs.items t ≡ greatest t lines.now places.now) }
