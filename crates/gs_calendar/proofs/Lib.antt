@@ -7,6 +7,7 @@ pub mod Hearing
 pub mod Calm
 pub mod Breaches
 pub mod Staleness
+pub mod Known
 pub mod Lists
 pub mod Sorted
 pub mod Turns

@@ -2,3 +2,4 @@
 pub mod Keys
 pub mod Transits
 pub mod Feeds
+pub mod Coming

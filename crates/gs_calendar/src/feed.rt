@@ -3,14 +3,15 @@ ghost use Rattle.gs_plan.specs.Plans.{text_of};
 ghost use Rattle.gs_run.specs.Nets.{net_of};
 ghost use Rattle.gs_calendar.specs.Course.{course_of};
 ghost use Rattle.gs_calendar.specs.Calendar.{first_turn};
-ghost use Rattle.gs_calendar.specs.Events.{events_of, incs_at};
-ghost use Rattle.gs_calendar.specs.inside.Feeds.{IsReadFor, turn_in, waiting};
+ghost use Rattle.gs_calendar.specs.Events.{events_of};
+ghost use Rattle.gs_calendar.specs.inside.Feeds.{turn_in, waiting};
 
+use crate::ahead::{Ahead, first_ahead, go_on, incs_of};
 use crate::round::{next_tick, take_due};
 use crate::sending::send_all;
 use crate::transit::Transit;
 use crate::turn::NodeTurn;
-use gs_core::{Event, Incs};
+use gs_core::Event;
 use gs_plan::Plan;
 use gs_script::Script;
 use std::alloc::{AllocError, Global};
@@ -18,8 +19,8 @@ use std::marker::Model;
 use std::mem;
 
 /// The events of a script, one after the other. Contracts see the list of those that are left. It works
-/// out when nodes tick and send, and keeps what is in transit to each node by when it is due; it keeps
-/// no clocks.
+/// out when nodes tick and send, and keeps what is in transit to each node by when it is due; it asks the
+/// script where what it says may change, and keeps no clocks.
 #[derive(Drop)]
 pub struct Feed<'p> {
     plan: &'p Plan,
@@ -32,6 +33,8 @@ pub struct Feed<'p> {
     to: u32,
     /// The ticks of the nodes below this one were given.
     at: u32,
+    /// What the script says of each node in the next quantum.
+    ahead: Vec<Ahead>,
     /// The turn of each node after the quantum.
     turns: Vec<NodeTurn>,
     /// Room for those after the next quantum.
@@ -50,20 +53,6 @@ impl<'p> Model for Feed<'p> {
     ghost view = { left_in };
 
     ghost invariant = { IsInside };
-}
-
-/// What each hardware clock adds in quantum `now`.
-#[tactic(auto, using(crate::proofs::Beginning::increments))]
-fn incs(alloc: Global, plan: &Plan, script: &Script, now: u32) -> Result<Incs, AllocError>
-    requires { IsReadFor (text_of plan.now) script.now }
-    ensures { IfOk result (λ incs. incs ≡ incs_at (net_of plan.now) (course_of script.now) now) }
-{
-    let nodes = plan.topo().nodes();
-    let mut incs = Vec::with_capacity(alloc, nodes as usize)?;
-    for v in 0..nodes {
-        incs.push(script.inc(v, now))?;
-    }
-    Ok(Incs::from_vec(incs))
 }
 
 /// The turns of `nodes` nodes at the start.
@@ -106,6 +95,7 @@ impl<'p> Feed<'p> {
             t: 0,
             to: nodes,
             at: nodes,
+            ahead: first_ahead(alloc, plan, script)?,
             turns: first_turns(alloc, nodes)?,
             next: first_turns(alloc, nodes)?,
             waiting: none_waiting(alloc, nodes)?,
@@ -135,17 +125,19 @@ impl<'p> Feed<'p> {
         if self.t == self.quanta {
             return Ok(None);
         }
-        let incs = incs(alloc, self.plan, self.script, self.t + 1)?;
+        let incs = incs_of(alloc, &self.ahead)?;
         send_all(
             self.plan,
             self.script,
             self.t,
+            &self.ahead,
             &self.turns,
             &mut self.next,
             &mut self.waiting,
         )?;
         mem::swap(&mut self.turns, &mut self.next);
         self.t += 1;
+        go_on(self.plan, self.script, &mut self.ahead, self.t);
         self.to = 0;
         self.at = 0;
         Ok(Some(Event::Quantum(incs)))

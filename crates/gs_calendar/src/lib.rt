@@ -7,6 +7,7 @@ pub use feed::Feed;
 pub use laws::{few_losses_never_breach, scripts_are_calm};
 pub use stop::PlayStop;
 
+mod ahead;
 mod feed;
 mod laws;
 mod round;

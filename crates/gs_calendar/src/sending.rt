@@ -1,13 +1,15 @@
-ghost use Rattle.std.specs.Prelude.{◌≡◌, ◌+◌, ◌^◌, ◌<◌, suc, length, OnErr, OnOk, Some};
+ghost use Rattle.std.specs.Prelude.{◌≡◌, ◌+◌, ◌^◌, ◌<◌, ℕ, suc, length, OnErr, OnOk, Some};
 ghost use Rattle.gs_topo.specs.Graph.{Adjacent};
 ghost use Rattle.gs_plan.specs.Plans.{text_of};
 ghost use Rattle.gs_plan.specs.Shapes.{graph_of_text};
 ghost use Rattle.gs_script.specs.Script.{delay_of};
 ghost use Rattle.gs_run.specs.Nets.{net_of};
 ghost use Rattle.gs_calendar.specs.Calendar.{sent_at, turn};
-ghost use Rattle.gs_calendar.specs.Course.{course_of};
+ghost use Rattle.gs_calendar.specs.Course.{Course, course_of};
+ghost use Rattle.gs_calendar.specs.inside.Coming.{AreAhead};
 ghost use Rattle.gs_calendar.specs.inside.Feeds.{AllSent, AreTurns, Grows, HasSentAll, IsReadFor, sent_to};
 
+use crate::ahead::Ahead;
 use crate::transit::{InTransit, Transit};
 use crate::turn::NodeTurn;
 use gs_plan::Plan;
@@ -60,16 +62,14 @@ fn send(
     Ok(())
 }
 
-/// The turn of `v` after quantum `t + 1`.
+/// The turn of a node after quantum `t + 1`, in which this gap between ticks is asked for.
 #[tactic(auto, using(crate::proofs::OnTheWay::turns))]
-fn turn_after(plan: &Plan, script: &Script, v: u32, t: u32, before: NodeTurn) -> NodeTurn
-    requires read { IsReadFor (text_of plan.now) script.now }
-    requires node { v < (net_of plan.now).nodes }
-    requires end { t < script.now.quanta }
-    requires turn { before ≡ turn (net_of plan.now) (course_of script.now) v t }
-    ensures { result ≡ turn (net_of plan.now) (course_of script.now) v (suc t) }
+fn turn_after(plan: &Plan, gap: u32, t: u32, before: NodeTurn) -> NodeTurn
+    requires { (c : Course) × (v : ℕ) × (t < 2 ^ 31) × (before ≡ turn (net_of plan.now) c v t) }
+    ensures { (c : Course) (v : ℕ) → gap ≡ c.gap v (t + 1) → before ≡ turn (net_of plan.now) c v t
+        → result ≡ turn (net_of plan.now) c v (suc t) }
 {
-    before.next(plan.text().every, script.gap(v, t + 1), t + 1)
+    before.next(plan.text().every, gap, t + 1)
 }
 
 /// Puts the beacon that `from` sends in quantum `t + 1` on its way, if its turn gave one.
@@ -103,6 +103,7 @@ pub(crate) fn send_all(
     plan: &Plan,
     script: &Script,
     t: u32,
+    ahead: &[Ahead],
     turns: &[NodeTurn],
     next: &mut [NodeTurn],
     waiting: &mut [Transit],
@@ -111,6 +112,7 @@ pub(crate) fn send_all(
     requires end { t < script.now.quanta }
     requires counts { (length turns.now ≡ (net_of plan.now).nodes) × (length next.old ≡ (net_of plan.now).nodes) }
     requires lists { length waiting.old ≡ (net_of plan.now).nodes }
+    requires ahead { AreAhead (net_of plan.now) (course_of script.now) (suc t) ahead.now }
     requires turns { AreTurns (net_of plan.now) (course_of script.now) t turns.now }
     ensures grows { Grows (net_of plan.now) (course_of script.now) t waiting.old waiting.new }
     ensures turns { OnOk result (AreTurns (net_of plan.now) (course_of script.now) (suc t) next.new) }
@@ -118,7 +120,7 @@ pub(crate) fn send_all(
 {
     for v in 0..turns.len() {
         let before = turns[v];
-        let after = turn_after(plan, script, v as u32, t, before);
+        let after = turn_after(plan, ahead[v].gap.value, t, before);
         next[v] = after;
         send_given(plan, script, v as u32, t, before, after, waiting)?;
     }

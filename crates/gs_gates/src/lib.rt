@@ -5,10 +5,12 @@
 pub use counting::CountGate;
 pub use holding::HoldGate;
 pub use meeting::Rendezvous;
+pub use pairing::PairGate;
 
 mod counting;
 mod holding;
 mod meeting;
+mod pairing;
 #[cfg(test)]
 mod tests;
 mod waiting;

@@ -33,6 +33,28 @@ fn pieces_one_after_another_do_not_meet(rt: HostRuntime) {
     assert!(rt; !gate.met());
 }
 
+#[test]
+fn pairs_meet_each_time(rt: HostRuntime) {
+    let gate = PairGate::new();
+    for _ in 0..3 {
+        join(&rt, || gate.enter(0), || gate.enter(1));
+    }
+    assert_eq!(rt; gate.met(), 3);
+    gate.enter(2);
+    gate.leave(0);
+    gate.rest(1);
+}
+
+#[test]
+fn pairs_one_after_another_do_not_meet(rt: HostRuntime) {
+    let gate = PairGate::within(1000);
+    for _ in 0..3 {
+        gate.enter(0);
+        gate.enter(1);
+    }
+    assert_eq!(rt; gate.met(), 0);
+}
+
 // Rests while another thread waits for the rest and then sets the flag. Tells whether it saw one.
 fn rest_until_set<R: Threads>(rt: &R, gate: &HoldGate) -> bool {
     join(

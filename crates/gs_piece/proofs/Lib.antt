@@ -1,3 +1,4 @@
 pub mod Turns
 pub mod Clocks
 pub mod Quanta
+pub mod Blocks

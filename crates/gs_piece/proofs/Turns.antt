@@ -1,6 +1,6 @@
 -- The nodes of a piece through a quantum, one after another.
-use Rattle.std.proofs.Common.{◌≡◌, ◌==◌, ℕ, suc, ◌+◌, ◌<◌, ◌≤◌, arith, ap, sym, refl, ◌∙◌, subst, inl, inr, ◌⊎◌, List, [], ◌∷◌, ◌++◌, length, length-append, length-set, get_or-set_same, get_or-set_other, nat_lt, Bool, true, false, slice_index, slice_index_or, slice_set, if◌then◌else◌}
-use Rattle.std.proofs.lemmas.Bool.{cases_eq, cases_lt, eq-eqb, false≢true, le-ltb, lt-ltb, ne_eqb}
+use Rattle.std.proofs.Common.{◌≡◌, ◌==◌, ℕ, suc, ◌+◌, ◌-◌, ◌<◌, ◌≤◌, arith, ap, sym, refl, ◌∙◌, subst, inl, inr, ◌⊎◌, List, [], ◌∷◌, ◌++◌, not, length, length-append, length-set, get_or-set_same, get_or-set_other, nat_lt, Bool, true, false, slice_index, slice_index_or, slice_set, if◌then◌else◌}
+use Rattle.std.proofs.lemmas.Bool.{cases_eq, cases_lt, eq-eqb, false≢true, le-ltb, lt-ltb, ne_eqb, not-false}
 use Rattle.std.proofs.Math.Seq.{get_or-append_seam}
 use Rattle.std.proofs.lemmas.List.{get_or_append_left}
 use Rattle.gs_run.specs.Accepted.{AreNumbers}
@@ -11,8 +11,10 @@ use Rattle.gs_calendar.proofs.Fitting.{IsCourse}
 use Rattle.gs_seat.specs.Held.{AreSentIn, IsWindow, handed}
 use Rattle.gs_run.specs.World.{Sent}
 use Rattle.std.proofs.lemmas.Option.{none-some}
-use Rattle.gs_seat.specs.Seats.{IsSeatAt, IsSeatIn, mode_of, step_of, wake_of}
+use Rattle.gs_seat.specs.Seats.{IsSeatAt, IsSeatIn, has_sent, mode_of, step_of, wake_of}
 use Rattle.gs_seat.specs.declared.seat.Seat.{Seat}
+use Rattle.gs_piece.specs.Senders.{IsFirstSender, NoneSends}
+use Rattle.gs_piece.proofs.Clocks.{some_seat}
 use Rattle.gs_seat.proofs.Windows.{seat_as, sleeps_on}
 use Rattle.gs_piece.specs.Nodes.{AddsSeat, AllHanded, AreNodes, AreWith, Ending, IsSeen, SetsSeat, handed_to, midway, none_handed}
 use Rattle.gs_piece.specs.declared.nodes.Nodes.{Nodes}
@@ -62,8 +64,9 @@ pub sets_of : (i : ℕ) (s : Seat) (old new : Nodes) → i < length old.seats.it
     → ((d : Seat) → new.steps.items ≡ slice_set old.steps.items i (step_of (slice_index_or (slice_set old.seats.items i s) i d)))
     → ((d : Seat) → new.wake.items ≡ slice_set old.wake.items i (wake_of (slice_index_or (slice_set old.seats.items i s) i d)))
     → ((d : Seat) → new.fast.items ≡ slice_set old.fast.items i (is_fast (mode_of (slice_index_or (slice_set old.seats.items i s) i d))))
+    → ((d : Seat) → new.sends.items ≡ slice_set old.sends.items i (has_sent (slice_index_or (slice_set old.seats.items i s) i d)))
     → SetsSeat i s old new
-sets_of i s old new here first seats steps wake fast =
+sets_of i s old new here first seats steps wake fast sends =
     let own : slice_index_or (slice_set old.seats.items i s) i s ≡ s = get_or-set_same old.seats.items i s s here in
     record {
       first = first;
@@ -71,6 +74,7 @@ sets_of i s old new here first seats steps wake fast =
       steps = steps s ∙ ap (λ (x : Seat). slice_set old.steps.items i (step_of x)) own;
       wake = wake s ∙ ap (λ (x : Seat). slice_set old.wake.items i (wake_of x)) own;
       fast = fast s ∙ ap (λ (x : Seat). slice_set old.fast.items i (is_fast (mode_of x))) own;
+      sends = sends s ∙ ap (λ (x : Seat). slice_set old.sends.items i (has_sent x)) own;
     }
 
 set_count : {A : Type 0} (a b i : ℕ) (x : A) (old new : List A) → new ≡ slice_set old i x → a + length old ≡ b → a + length new ≡ b
@@ -87,6 +91,7 @@ nodes_set nodes a b i Old New old new s h sets own others is = record {
   steps = set_count a b i (step_of s) old.steps.items new.steps.items sets.steps is.steps;
   wake = set_count a b i (wake_of s) old.wake.items new.wake.items sets.wake is.wake;
   fast = set_count a b i (is_fast (mode_of s)) old.fast.items new.fast.items sets.fast is.fast;
+  sends = set_count a b i (has_sent s) old.sends.items new.sends.items sets.sends is.sends;
   seat = λ k d hk. elim (cases_eq k i) [
     | inl same ↦ (let p = is.seats in
         let seat : slice_index_or new.seats.items k d ≡ s = ap (λ (xs : List Seat). slice_index_or xs k d) sets.seats ∙ ap (λ (j : ℕ). slice_index_or (slice_set old.seats.items i s) j d) same ∙ get_or-set_same old.seats.items i s d (omega (arith, h, p)) in
@@ -98,6 +103,14 @@ nodes_set nodes a b i Old New old new s h sets own others is = record {
     | inl same ↦ subst (λ (j : ℕ). IsSeen (slice_index_or new.seats.items j d) (slice_index new.steps.items j) (slice_index new.wake.items j) (slice_index_or new.fast.items j false)) (sym same)
         (seen_own a b i s old new d h is.seats is.steps is.wake is.fast sets)
     | inr other ↦ seen_other i k s old new d other sets (is.seen k d hk)
+  ];
+  sender = λ k d hk. ap (λ (xs : List Bool). slice_index_or xs k false) sets.sends ∙ elim (cases_eq k i) [
+    | inl same ↦ (let p = is.seats in
+        let q = is.sends in
+        ap (λ (j : ℕ). slice_index_or (slice_set old.sends.items i (has_sent s)) j false) same ∙ get_or-set_same old.sends.items i (has_sent s) false (omega (arith, h, q))
+        ∙ ap has_sent (sym (ap (λ (xs : List Seat). slice_index_or xs k d) sets.seats ∙ ap (λ (j : ℕ). slice_index_or (slice_set old.seats.items i s) j d) same ∙ get_or-set_same old.seats.items i s d (omega (arith, h, p)))))
+    | inr other ↦ get_or-set_other old.sends.items i k (has_sent s) false other ∙ is.sender k d hk
+        ∙ ap has_sent (sym (ap (λ (xs : List Seat). slice_index_or xs k d) sets.seats ∙ get_or-set_other old.seats.items i k s d other))
   ];
 }
 
@@ -113,6 +126,8 @@ nodes_map nodes a b Old New x each is = record {
   fast = is.fast;
   seat = λ k d hk. each k d hk (is.seat k d hk);
   seen = is.seen;
+  sends = is.sends;
+  sender = is.sender;
 }
 
 -- the node at place i had its turn
@@ -192,14 +207,58 @@ nodes_rested net c a b m t u old new s h sets own is =
     (λ k x other hk. subst (λ (n : ℕ). IsSeatAt net c (a + k) (λ y. t) n t x) (sym (ending_next m t u k other)))
     is
 
--- a seat that sent nothing begins it as it is
-pub nodes_idle : (net : Net) (c : Course) (a b m t u : ℕ) (x : Nodes) (d : Seat) → AreSentIn net c (a + u) m t [] → AreWith net.nodes a b (Ending net c a m t u) x → AreWith net.nodes a b (Ending net c a m t (suc u)) x
-nodes_idle net c a b m t u x d none is = nodes_map net.nodes a b (Ending net c a m t u) (Ending net c a m t (suc u)) x
-    (λ k e hk old. elim (cases_eq k u) [
-      | inl same ↦ subst (λ (n : ℕ). IsSeatAt net c (a + k) (λ y. t) n t (slice_index_or x.seats.items k e)) (sym (ending_done m t (suc u) k (omega (arith, same))))
-          (seat_rests net c (a + k) m t (slice_index_or x.seats.items k e) (subst (λ (j : ℕ). AreSentIn net c (a + j) m t []) (sym same) none)
-          (subst (λ (n : ℕ). IsSeatAt net c (a + k) (λ y. t) n t (slice_index_or x.seats.items k e)) (ending_left m t u k (omega (arith, same))) old))
-      | inr other ↦ subst (λ (n : ℕ). IsSeatAt net c (a + k) (λ y. t) n t (slice_index_or x.seats.items k e)) (sym (ending_next m t u k other)) old
+-- one that did not send sent nothing
+pub none_sent : (net : Net) (c : Course) (v : ℕ) (by : ℕ → ℕ) (m t : ℕ) (s : Seat) → has_sent s ≡ false → IsSeatAt net c v by m t s → AreSentIn net c v m t []
+none_sent net c v by m t s silent is = subst (AreSentIn net c v m t) (no_items s.sent.items (not-false (length s.sent.items == 0) silent)) is.sent
+
+-- and one that sent, something
+pub some_sent : (net : Net) (c : Course) (v : ℕ) (by : ℕ → ℕ) (m t : ℕ) (s : Seat) → has_sent s ≡ true → IsSeatAt net c v by m t s → AreSentIn net c v m t [] → ⊥
+some_sent net c v by m t s sends is none =
+    false≢true (sym (ap (λ (n : ℕ). not (n == 0)) (ap length (sent_empty net c v m t s.sent.items none is.sent))) ∙ sends)
+
+-- the node at place i is the first from u on that sent anything
+pub first_sends : (net : Net) (c : Course) (by : ℕ → ℕ → ℕ) (a b m t u i : ℕ) (x : Nodes) → a + i < b → u ≤ a + i → slice_index_or x.sends.items i false ≡ true
+    → ((k : ℕ) → u ≤ a + k → k < i → slice_index_or x.sends.items k false ≡ false) → AreNodes net c by a b m (λ j. t) x → IsFirstSender net c u a b m t (a + i)
+first_sends net c by a b m t u i x h from sends silent is =
+    let d : Seat = some_seat x.seats.items (let n = is.seats in omega (arith, h, n)) in
+    record {
+      from = from;
+      low = omega arith;
+      high = h;
+      none = λ v after low less.
+          let k : ℕ = v - a in
+          let place : a + k ≡ v = omega (arith, low) in
+          let hk : a + k < b = omega (arith, place, less, h) in
+          subst (λ (w : ℕ). AreSentIn net c w m t []) place
+          (none_sent net c (a + k) (by (a + k)) m t (slice_index_or x.seats.items k d) (sym (is.sender k d hk) ∙ silent k (omega (arith, place, after)) (omega (arith, place, less))) (is.seat k d hk));
+      some = some_sent net c (a + i) (by (a + i)) m t (slice_index_or x.seats.items i d) (sym (is.sender i d h) ∙ sends) (is.seat i d h);
+    }
+
+-- no node from u on did
+pub none_sends : (net : Net) (c : Course) (by : ℕ → ℕ → ℕ) (a b m t u : ℕ) (x : Nodes) → ((k : ℕ) → u ≤ a + k → a + k < b → slice_index_or x.sends.items k false ≡ false)
+    → AreNodes net c by a b m (λ j. t) x → NoneSends net c u a b m t
+none_sends net c by a b m t u x silent is v after low less =
+    let k : ℕ = v - a in
+    let place : a + k ≡ v = omega (arith, low) in
+    let hk : a + k < b = omega (arith, place, less) in
+    let d : Seat = some_seat x.seats.items (let n = is.seats in omega (arith, hk, n)) in
+    subst (λ (w : ℕ). AreSentIn net c w m t []) place
+    (none_sent net c (a + k) (by (a + k)) m t (slice_index_or x.seats.items k d) (sym (is.sender k d hk) ∙ silent k (omega (arith, place, after)) hk) (is.seat k d hk))
+
+-- seats that sent nothing begin it as they are
+pub nodes_idle : (net : Net) (c : Course) (a b m t u i : ℕ) (x : Nodes) → u ≤ i → ((k : ℕ) → u ≤ k → k < i → a + k < b → slice_index_or x.sends.items k false ≡ false)
+    → AreWith net.nodes a b (Ending net c a m t u) x → AreWith net.nodes a b (Ending net c a m t i) x
+nodes_idle net c a b m t u i x le silent is = nodes_map net.nodes a b (Ending net c a m t u) (Ending net c a m t i) x
+    (λ k d hk old.
+    let s : Seat = slice_index_or x.seats.items k d in
+    elim (cases_lt k u) [
+      | inl done ↦ subst (λ (n : ℕ). IsSeatAt net c (a + k) (λ y. t) n t s) (ending_done m t u k done ∙ sym (ending_done m t i k (omega (arith, done, le)))) old
+      | inr left ↦ (let own : IsSeatAt net c (a + k) (λ y. t) m t s = subst (λ (n : ℕ). IsSeatAt net c (a + k) (λ y. t) n t s) (ending_left m t u k left) old in
+          elim (cases_lt k i) [
+            | inl idle ↦ subst (λ (n : ℕ). IsSeatAt net c (a + k) (λ y. t) n t s) (sym (ending_done m t i k idle))
+                (seat_rests net c (a + k) m t s (none_sent net c (a + k) (λ y. t) m t s (sym (is.sender k d hk) ∙ silent k left idle hk) own) own)
+            | inr more ↦ subst (λ (n : ℕ). IsSeatAt net c (a + k) (λ y. t) n t s) (sym (ending_left m t i k more)) own
+          ])
     ]) is
 
 pub nodes_ended_all : (net : Net) (c : Course) (a b m t u : ℕ) (x : Nodes) → b ≤ a + u → AreWith net.nodes a b (Ending net c a m t u) x → AreNodes net c (none_handed t) a b t (λ j. t) x
@@ -251,6 +310,7 @@ nodes_added net c a b old new s hb adds own is =
     let steps = is.steps in
     let wakes = is.wake in
     let fasts = is.fast in
+    let sends = is.sends in
     let pick : (k : ℕ) → a + k < suc b → (k < length old.seats.items) ⊎ (k ≡ length old.seats.items) = λ k hk. elim (cases_lt k (length old.seats.items)) [
       | inl less ↦ inl less
       | inr more ↦ inr (omega (arith, hk, more, seats))
@@ -262,6 +322,13 @@ nodes_added net c a b old new s hb adds own is =
       steps = add_count a b (step_of s) old.steps.items new.steps.items adds.steps is.steps;
       wake = add_count a b (wake_of s) old.wake.items new.wake.items adds.wake is.wake;
       fast = add_count a b (is_fast (mode_of s)) old.fast.items new.fast.items adds.fast is.fast;
+      sends = add_count a b (has_sent s) old.sends.items new.sends.items adds.sends is.sends;
+      sender = λ k d hk. ap (λ (xs : List Bool). slice_index_or xs k false) adds.sends ∙ elim (pick k hk) [
+        | inl less ↦ before_end old.sends.items (has_sent s) false k (omega (arith, less, seats, sends)) ∙ is.sender k d (omega (arith, less, seats))
+            ∙ ap has_sent (sym (ap (λ (xs : List Seat). slice_index_or xs k d) adds.seats ∙ before_end old.seats.items s d k less))
+        | inr last ↦ at_end old.sends.items (has_sent s) false k (omega (arith, last, seats, sends))
+            ∙ ap has_sent (sym (ap (λ (xs : List Seat). slice_index_or xs k d) adds.seats ∙ at_end old.seats.items s d k last))
+      ];
       seat = λ k d hk. elim (pick k hk) [
         | inl less ↦ subst (IsSeatAt net c (a + k) (λ x. 0) 0 0) (sym (ap (λ (xs : List Seat). slice_index_or xs k d) adds.seats ∙ before_end old.seats.items s d k less)) (is.seat k d (omega (arith, less, seats)))
         | inr last ↦ (let v : b ≡ a + k = omega (arith, last, seats) in

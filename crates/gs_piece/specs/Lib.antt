@@ -2,3 +2,4 @@ pub mod Columns
 pub mod Nodes
 pub mod Pieces
 pub mod Staleness
+pub mod Senders

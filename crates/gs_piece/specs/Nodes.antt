@@ -5,7 +5,7 @@ use Rattle.gs_run.specs.Net.{Net, neighbours}
 use Rattle.gs_calendar.specs.inside.Transits.{Has}
 use Rattle.gs_seat.specs.Held.{handed}
 use Rattle.gs_calendar.specs.Course.{Course}
-use Rattle.gs_seat.specs.Seats.{IsSeatAt, mode_of, step_of, wake_of}
+use Rattle.gs_seat.specs.Seats.{IsSeatAt, has_sent, mode_of, step_of, wake_of}
 use Rattle.gs_seat.specs.declared.seat.Seat.{Seat}
 use Rattle.gs_piece.specs.declared.nodes.Nodes.{Nodes}
 
@@ -31,9 +31,11 @@ pub record AreWith (nodes a b : ℕ) (Is : ℕ → Seat → Type 0) (x : Nodes) 
   pub steps : a + length x.steps.items ≡ b
   pub wake : a + length x.wake.items ≡ b
   pub fast : a + length x.fast.items ≡ b
+  pub sends : a + length x.sends.items ≡ b
   pub seat : (i : ℕ) (d : Seat) → a + i < b → Is i (slice_index_or x.seats.items i d)
   pub seen : (i : ℕ) (d : Seat) → a + i < b
       → IsSeen (slice_index_or x.seats.items i d) (slice_index x.steps.items i) (slice_index x.wake.items i) (slice_index_or x.fast.items i false)
+  pub sender : (i : ℕ) (d : Seat) → a + i < b → slice_index_or x.sends.items i false ≡ has_sent (slice_index_or x.seats.items i d)
 
 -- These are the nodes a to b - 1, the one at place i at the end of quantum `time i`, in a window that began at the end of quantum
 -- m. In transit to node v is what each node x sent by quantum `by v x`.
@@ -59,6 +61,7 @@ pub record SetsSeat (i : ℕ) (s : Seat) (old new : Nodes) : Type 0 where
   pub steps : new.steps.items ≡ slice_set old.steps.items i (step_of s)
   pub wake : new.wake.items ≡ slice_set old.wake.items i (wake_of s)
   pub fast : new.fast.items ≡ slice_set old.fast.items i (is_fast (mode_of s))
+  pub sends : new.sends.items ≡ slice_set old.sends.items i (has_sent s)
 
 -- these are the old nodes, and one more behind them
 pub record AddsSeat (s : Seat) (old new : Nodes) : Type 0 where
@@ -67,3 +70,4 @@ pub record AddsSeat (s : Seat) (old new : Nodes) : Type 0 where
   pub steps : new.steps.items ≡ old.steps.items ++ step_of s ∷ []
   pub wake : new.wake.items ≡ old.wake.items ++ wake_of s ∷ []
   pub fast : new.fast.items ≡ old.fast.items ++ is_fast (mode_of s) ∷ []
+  pub sends : new.sends.items ≡ old.sends.items ++ has_sent s ∷ []

@@ -46,11 +46,11 @@ fn set_fast(seats: &[Seat], fast: &[bool], t: u32, clocks: &mut [u64]) -> u32
     ensures number { result ≡ count_by (λ b. b) fast.now }
 {
     let mut number = 0;
-    for i in 0..fast.len() {
-        if fast[i] {
-            clocks[i] = next_clock(seats, t, i);
-            number += 1;
-        }
+    let mut from = 0;
+    while let Some(i) = first_set(fast, from) {
+        clocks[i] = next_clock(seats, t, i);
+        number += 1;
+        from = i + 1;
     }
     number
 }
@@ -82,14 +82,106 @@ pub(crate) fn advance(
     set_fast(seats, fast, t, clocks)
 }
 
+/// How many places of a column are looked at at once.
+const BLOCK: usize = 8;
+
+/// Whether any of these nodes wakes up by quantum `t`.
+fn is_any_awake(wake: &[u32], t: u32) -> bool
+    ensures { result ≡ false → (k : ℕ) → k < length wake.now → t < slice_index wake.now k }
+{
+    let mut any = false;
+    for i in 0..wake.len() {
+        any |= wake[i] <= t;
+    }
+    any
+}
+
+/// Whether all nodes of the block from a place on, which is whole, sleep through quantum `t`.
+fn is_block_asleep(wake: &[u32], from: usize, t: u32) -> bool
+    requires { from ≤ length wake.now }
+    ensures { result ≡ true → (from + 8 ≤ length wake.now)
+        × ((k : ℕ) → from ≤ k → k < from + 8 → t < slice_index wake.now k) }
+{
+    if wake.len() - from < BLOCK {
+        return false;
+    }
+    !is_any_awake(&wake[from..from + BLOCK], t)
+}
+
+/// The place behind the blocks from a place on that sleep through quantum `t`.
+fn skip_asleep(wake: &[u32], from: usize, t: u32) -> usize
+    requires { from ≤ length wake.now }
+    ensures inside { (from ≤ result) × (result ≤ length wake.now) }
+    ensures asleep { (k : ℕ) → from ≤ k → k < result → t < slice_index wake.now k }
+{
+    let mut at = from;
+    while is_block_asleep(wake, at, t) {
+        at += BLOCK;
+    }
+    at
+}
+
 /// The first node from a place on that wakes up by quantum `t`.
 pub(crate) fn first_awake(wake: &[u32], from: usize, t: u32) -> Option<usize>
+    requires { from ≤ length wake.now }
     ensures some { IfSome result (λ i. (from ≤ i) × (i < length wake.now)
         × ((k : ℕ) → from ≤ k → k < i → t < slice_index wake.now k)) }
     ensures none { IfNone result ((k : ℕ) → from ≤ k → k < length wake.now → t < slice_index wake.now k) }
 {
-    for i in from..wake.len() {
+    for i in skip_asleep(wake, from, t)..wake.len() {
         if wake[i] <= t {
+            return Some(i);
+        }
+    }
+    None
+}
+
+/// Whether any of these flags is set.
+fn is_any_set(flags: &[bool]) -> bool
+    ensures { result ≡ false → (k : ℕ) → k < length flags.now → slice_index_or flags.now k false ≡ false }
+{
+    let mut any = false;
+    for i in 0..flags.len() {
+        any |= flags[i];
+    }
+    any
+}
+
+/// Whether no flag of the two blocks from a place on, which are whole, is set.
+fn is_block_clear(flags: &[bool], from: usize) -> bool
+    requires { from ≤ length flags.now }
+    ensures { result ≡ true → (from + 16 ≤ length flags.now)
+        × ((k : ℕ) → from ≤ k → k < from + 16 → slice_index_or flags.now k false ≡ false) }
+{
+    if flags.len() - from < 2 * BLOCK {
+        return false;
+    }
+    !is_any_set(&flags[from..from + 2 * BLOCK])
+}
+
+/// The place behind the blocks from a place on in which no flag is set.
+fn skip_clear(flags: &[bool], from: usize) -> usize
+    requires { from ≤ length flags.now }
+    ensures inside { (from ≤ result) × (result ≤ length flags.now) }
+    ensures clear { (k : ℕ) → from ≤ k → k < result → slice_index_or flags.now k false ≡ false }
+{
+    let mut at = from;
+    while is_block_clear(flags, at) {
+        at += 2 * BLOCK;
+    }
+    at
+}
+
+/// The first place from one on at which a flag is set.
+pub(crate) fn first_set(flags: &[bool], from: usize) -> Option<usize>
+    requires { from ≤ length flags.now }
+    ensures some { IfSome result (λ i. (from ≤ i) × (i < length flags.now) × (slice_index_or flags.now i false ≡ true)
+        × ((k : ℕ) → from ≤ k → k < i → slice_index_or flags.now k false ≡ false)) }
+    ensures none { IfNone result ((k : ℕ) → from ≤ k → k < length flags.now
+        → slice_index_or flags.now k false ≡ false) }
+{
+    for i in skip_clear(flags, from)..flags.len() {
+        if flags[i] {
             return Some(i);
         }
     }

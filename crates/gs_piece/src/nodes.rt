@@ -13,11 +13,11 @@ ghost use Rattle.gs_calendar.specs.Calendar.{heard_at};
 ghost use Rattle.gs_calendar.specs.inside.Transits.{Has};
 ghost use Rattle.gs_piece.specs.Staleness.{FirstIsStale, NoneIsStale};
 ghost use Rattle.gs_run.specs.Net.{Net, neighbour, neighbours};
-ghost use Rattle.gs_seat.specs.Seats.{mode_of, step_of, wake_of};
+ghost use Rattle.gs_seat.specs.Seats.{has_sent, mode_of, step_of, wake_of};
 ghost use Rattle.gs_seat.specs.declared.seat.Seat.{Seat};
 ghost use Rattle.gs_run.specs.Fast.{is_fast};
 
-use crate::columns::{advance, first_awake};
+use crate::columns::{advance, first_awake, first_set};
 use gs_plan::Plan;
 use gs_script::Script;
 use gs_seat::{Seat, SentBeacon};
@@ -34,6 +34,8 @@ pub(crate) struct Nodes {
     pub(crate) wake: Vec<u32>,
     /// Whether each is in the fast mode.
     pub(crate) fast: Vec<bool>,
+    /// Whether each sent anything in the window.
+    pub(crate) sends: Vec<bool>,
 }
 
 impl Nodes {
@@ -57,6 +59,7 @@ impl Nodes {
             steps: Vec::new(alloc),
             wake: Vec::new(alloc),
             fast: Vec::new(alloc),
+            sends: Vec::new(alloc),
         };
         for v in first..end {
             nodes.push(Seat::start(alloc, plan, script, v)?)?;
@@ -94,6 +97,7 @@ impl Nodes {
         self.steps.push(u64::from(seat.step()))?;
         self.wake.push(seat.wake())?;
         self.fast.push(seat.is_fast())?;
+        self.sends.push(seat.has_sent())?;
         self.seats.push(seat)?;
         Ok(())
     }
@@ -118,7 +122,7 @@ impl Nodes {
     /// Looks anew at what the node at a place does next.
     fn look(&mut self, i: usize)
         requires { (i < length self.old.seats.items) × (i < length self.old.steps.items) × (i < length self.old.wake.items)
-            × (i < length self.old.fast.items) }
+            × (i < length self.old.fast.items) × (i < length self.old.sends.items) }
         ensures same { (self.new.first ≡ self.old.first) × (self.new.seats ≡ self.old.seats) }
         ensures steps { (d : Seat) → self.new.steps.items
             ≡ slice_set self.old.steps.items i (step_of (slice_index_or self.old.seats.items i d)) }
@@ -126,15 +130,19 @@ impl Nodes {
             ≡ slice_set self.old.wake.items i (wake_of (slice_index_or self.old.seats.items i d)) }
         ensures fast { (d : Seat) → self.new.fast.items
             ≡ slice_set self.old.fast.items i (is_fast (mode_of (slice_index_or self.old.seats.items i d))) }
+        ensures sends { (d : Seat) → self.new.sends.items
+            ≡ slice_set self.old.sends.items i (has_sent (slice_index_or self.old.seats.items i d)) }
     {
         let seat = &self.seats[i];
         self.steps[i] = u64::from(seat.step());
         self.wake[i] = seat.wake();
         self.fast[i] = seat.is_fast();
+        self.sends[i] = seat.has_sent();
     }
 
     /// The first node from a place on that wakes up by quantum `t`.
     fn first_awake(&self, from: usize, t: u32) -> Option<usize>
+        requires { from ≤ length self.now.wake.items }
         ensures some { IfSome result (λ i. (from ≤ i) × (i < length self.now.wake.items)
             × ((k : ℕ) → from ≤ k → k < i → t < slice_index self.now.wake.items k)) }
         ensures none { IfNone result ((k : ℕ) → from ≤ k → k < length self.now.wake.items
@@ -204,23 +212,36 @@ impl Nodes {
         ensures { (net : Net) (c : Course) (by : ℕ → ℕ → ℕ) (a b m t : ℕ) → AllHanded net by a b t
             → AreNodes net c by a b m (λ i. t) self.old → AreNodes net c (none_handed t) a b t (λ i. t) self.new }
     {
-        for i in 0..self.seats.len() {
+        let mut from = 0;
+        while let Some(i) = self.first_sender(from) {
             self.rest(i);
+            from = i + 1;
         }
+    }
+
+    /// The first node from a place on that sent anything in the window.
+    pub(crate) fn first_sender(&self, from: usize) -> Option<usize>
+        requires { from ≤ length self.now.sends.items }
+        ensures some { IfSome result (λ i. (from ≤ i) × (i < length self.now.sends.items)
+            × (slice_index_or self.now.sends.items i false ≡ true)
+            × ((k : ℕ) → from ≤ k → k < i → slice_index_or self.now.sends.items k false ≡ false)) }
+        ensures none { IfNone result ((k : ℕ) → from ≤ k → k < length self.now.sends.items
+            → slice_index_or self.now.sends.items k false ≡ false) }
+    {
+        first_set(&self.sends, from)
     }
 
     /// The node at a place begins the next window.
     fn rest(&mut self, i: usize)
         requires { (net : Net) × (c : Course) × (a : ℕ) × (b : ℕ) × (m : ℕ) × (t : ℕ) × (a + i < b)
             × AreWith net.nodes a b (Ending net c a m t i) self.old }
-        ensures { (net : Net) (c : Course) (a b m t : ℕ) → a + i < b
+        ensures count { length self.new.sends.items ≡ length self.old.sends.items }
+        ensures rests { (net : Net) (c : Course) (a b m t : ℕ) → a + i < b
             → AreWith net.nodes a b (Ending net c a m t i) self.old
             → AreWith net.nodes a b (Ending net c a m t (suc i)) self.new }
     {
-        if !self.seats[i].sent().is_empty() {
-            self.seats[i].end_window();
-            self.look(i);
-        }
+        self.seats[i].end_window();
+        self.look(i);
     }
 
     /// The least quantum in which any of what the nodes heard last of their neighbours was sent.

@@ -10,6 +10,8 @@ ghost use Rattle.gs_calendar.specs.Calendar.{heard_at};
 ghost use Rattle.gs_calendar.specs.inside.Transits.{Has};
 ghost use Rattle.gs_piece.specs.Staleness.{FirstIsStale, NoneIsStale};
 ghost use Rattle.gs_piece.specs.Columns.{clock_at};
+ghost use Rattle.gs_piece.specs.Senders.{IsFirstSender, NoneSends};
+ghost use Rattle.gs_plan.specs.declared.plan.Plan.{Plan};
 
 use crate::nodes::Nodes;
 use crate::row::Row;
@@ -129,6 +131,22 @@ impl Piece {
             → IsPiece net c by a b m t self.now → AreSentIn net c v m t result.now }
     {
         self.nodes.sent((v - self.nodes.first) as usize)
+    }
+
+    /// The first node from `from` on that sent anything in the window.
+    pub fn first_sender(&self, from: u32) -> Option<u32>
+        requires { (p : Plan) × (c : Course) × (by : ℕ → ℕ → ℕ) × (a : ℕ) × (b : ℕ) × (m : ℕ) × (t : ℕ) × (from ≤ b)
+            × IsPiece (net_of p) c by a b m t self.now }
+        ensures some { (net : Net) (c : Course) (by : ℕ → ℕ → ℕ) (a b m t : ℕ) → IsPiece net c by a b m t self.now
+            → IfSome result (IsFirstSender net c from a b m t) }
+        ensures none { (net : Net) (c : Course) (by : ℕ → ℕ → ℕ) (a b m t : ℕ) → IsPiece net c by a b m t self.now
+            → IfNone result (NoneSends net c from a b m t) }
+    {
+        let place = from.saturating_sub(self.nodes.first) as usize;
+        match self.nodes.first_sender(place) {
+            Some(i) => Some(self.nodes.first + i as u32),
+            None => None,
+        }
     }
 
     /// Node `to` takes over what its neighbour `from` sent in the window.

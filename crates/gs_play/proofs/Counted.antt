@@ -1,5 +1,5 @@
 -- Rows and totals, one quantum more.
-use Rattle.std.proofs.Common.{◌≡◌, ℕ, zero, suc, ◌+◌, ◌*◌, ◌^◌, ◌<◌, ◌≤◌, arith, ap, sym, refl, ◌∙◌, List, [], ◌∷◌, ◌++◌, length, length-append, map, replicate}
+use Rattle.std.proofs.Common.{◌≡◌, ℕ, zero, suc, ◌+◌, ◌^◌, ◌<◌, ◌≤◌, arith, ap, sym, refl, ◌∙◌, List, [], ◌∷◌, ◌++◌, length, length-append, map, replicate}
 use Rattle.std.specs.List.{range_with_len}
 use Rattle.std.proofs.lemmas.Grind.{same_number_lists}
 use Rattle.std.proofs.lemmas.List.{get_or-replicate, length-map, length-replicate}
@@ -7,7 +7,7 @@ use Rattle.std.proofs.lemmas.List.FromFn.{get_or-map-range_with_len, length-map-
 use Rattle.gs_core.specs.Node.{clock_of}
 use Rattle.gs_plan.specs.Plans.{graph_of}
 use Rattle.gs_plan.specs.declared.plan.Plan.{Plan}
-use Rattle.gs_level.specs.Tallies.{tally_of}
+use Rattle.gs_lookout.specs.Lookouts.{IsLookout}
 use Rattle.gs_run.specs.Fast.{fast_in}
 use Rattle.gs_run.specs.Net.{Net}
 use Rattle.gs_run.specs.Nets.{net_of}
@@ -52,14 +52,17 @@ first_row net c =
     get_or-replicate net.nodes k 0 0 inside ∙ sym (get_or-map-range_with_len (clock_at net c 0) 0 net.nodes k k 0 inside (omega arith) ∙ start_clock net c k inside))
     ∙ row_of_all net c 0
 
-pub totals_next : (p : Plan) (c : Course) (t fast : ℕ) (old new : Totals) → AreTotals p c t old → new.row.items ≡ clocks_in (net_of p) (world_of (net_of p) c (suc t))
-    → new.tally ≡ tally_of (graph_of p) (rows_of (net_of p) (start_of (net_of p)) (events_upto (net_of p) c t) ++ new.row.items ∷ [])
+pub totals_next : (p : Plan) (c : Course) (t fast : ℕ) (old new : Totals) → (are : AreTotals p c t old) → new.row.items ≡ clocks_in (net_of p) (world_of (net_of p) c (suc t))
+    → IsLookout (graph_of p) (are.tallied.before ++ clocks_in (net_of p) (world_of (net_of p) c t) ∷ []) (clocks_in (net_of p) (world_of (net_of p) c (suc t))) new.lookout
     → new.fast ≡ old.fast + fast → fast ≡ fast_in (world_of (net_of p) c t) → fast ≤ 2 ^ 38 → AreTotals p c (suc t) new
-totals_next p c t fast old new are row tally sum is small =
+totals_next p c t fast old new are row seen sum is small =
     let net = net_of p in
-    let rows : List (List ℕ) = rows_of net (start_of net) (events_upto net c t) in
     record {
-      tallied = tally ∙ ap (λ (l : List ℕ). tally_of (graph_of p) (rows ++ l ∷ [])) row ∙ ap (tally_of (graph_of p)) (sym (rows_next net c t));
+      tallied = record {
+        before = are.tallied.before ++ clocks_in net (world_of net c t) ∷ [];
+        rows = rows_next net c t ∙ ap (λ (rows : List (List ℕ)). rows ++ clocks_in net (world_of net c (suc t)) ∷ []) are.tallied.rows;
+        is = seen;
+      };
       row = row;
       fast = (let before = are.fast in let next = fast_next net c t in omega (arith, sum, is, before, next));
       few = (let few = are.few in omega (arith, few, sum, small));

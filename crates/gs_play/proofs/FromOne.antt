@@ -1,5 +1,5 @@
 -- One node hands over to all its neighbours.
-use Rattle.std.proofs.Common.{◌≡◌, ℕ, suc, ◌+◌, ◌*◌, ◌<◌, ◌≤◌, arith, ap, sym, refl, ◌∙◌, subst, inl, inr, min, List, length, slice_index_or, Bool, if◌then◌else◌}
+use Rattle.std.proofs.Common.{◌≡◌, ℕ, zero, suc, ◌+◌, ◌-◌, ◌*◌, ◌<◌, ◌≤◌, arith, ap, sym, refl, ◌∙◌, subst, inl, inr, min, List, length, slice_index_or, Bool, if◌then◌else◌}
 use Rattle.std.proofs.lemmas.Bool.{cases_eq, cases_lt, le-ltb, lt-ltb}
 use Rattle.std.proofs.lemmas.Option.{same_Some}
 use Rattle.gs_run.specs.Accepted.{AreNumbers}
@@ -124,6 +124,20 @@ none_hands net c size m t from ps le none are = pieces_map net c (handed_below m
       | inr differs ↦ handed_other by from t x differs ∙ below_next m t from v x differs
     ]) (λ x. below_within m t (suc from) v x le)
     (all_handed net c from v m t by s (subst (λ (q : ℕ). SendsNone net c from q (suc t)) (sym begun) none) seat)) are
+
+-- so with all from node u to v - 1
+pub none_hand : (net : Net) (c : Course) (size m t u v : ℕ) (ps : List Piece) → m ≤ t → u ≤ v → ((x : ℕ) → u ≤ x → x < v → SendsNone net c x m (suc t))
+    → ArePieces net c (handed_below m t u) size m t ps → ArePieces net c (handed_below m t v) size m t ps
+none_hand net c size m t u v ps le up none are =
+    let same : u + (v - u) ≡ v = omega (arith, up) in
+    subst (λ (k : ℕ). ArePieces net c (handed_below m t k) size m t ps) same (on (v - u) (λ x low high. none x low (omega (arith, high, up))))
+  where
+    on : (n : ℕ) → ((x : ℕ) → u ≤ x → x < u + n → SendsNone net c x m (suc t)) → ArePieces net c (handed_below m t (u + n)) size m t ps
+    on zero left = let none : u ≡ u + zero = omega arith in subst (λ (k : ℕ). ArePieces net c (handed_below m t k) size m t ps) none are
+    on (suc n) left =
+        let one : suc (u + n) ≡ u + suc n = omega arith in
+        subst (λ (k : ℕ). ArePieces net c (handed_below m t k) size m t ps) one
+        (none_hands net c size m t (u + n) ps le (left (u + n) (omega arith) (omega arith)) (on n (λ x low high. left x low (omega (arith, high)))))
 
 -- ---- from all nodes
 

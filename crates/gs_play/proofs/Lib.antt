@@ -7,3 +7,4 @@ pub mod FromOne
 pub mod Gathered
 pub mod Counted
 pub mod OneWindow
+pub mod Moving

@@ -1,5 +1,5 @@
 -- A player through a window.
-use Rattle.std.proofs.Common.{◌≡◌, ℕ, zero, suc, ◌+◌, ◌*◌, ◌<◌, ◌≤◌, arith, ap, sym, ◌∙◌, subst, inl, inr, min, List, length, slice_index_or, None}
+use Rattle.std.proofs.Common.{◌≡◌, ℕ, zero, suc, ◌+◌, ◌*◌, ◌<◌, ◌≤◌, arith, ap, sym, ◌∙◌, subst, inl, inr, min, List, length, slice_index_or}
 use Rattle.std.proofs.Math.Nat.{mul-le-mul_right}
 use Rattle.std.proofs.lemmas.Bool.{cases_lt}
 use Rattle.gs_plan.specs.declared.plan.Plan.{Plan}
@@ -13,6 +13,7 @@ use Rattle.gs_piece.specs.Pieces.{IsPieceIn}
 use Rattle.gs_piece.specs.declared.piece.Piece.{Piece}
 use Rattle.gs_play.specs.Pieces.{ArePiecesIn, AreReady, AreRun, HaveRows}
 use Rattle.gs_play.specs.Player.{IsPlayerAt, IsPlayerFor}
+use Rattle.gs_play.specs.Totals.{IsCalm}
 use Rattle.gs_play.specs.declared.player.Player.{Player}
 use Rattle.gs_play.proofs.Windows.{longest_is}
 
@@ -48,6 +49,14 @@ some_pieces p s t x h = elim (cases_lt 0 (length x.pieces.items)) [
 -- the window is one
 pub window_of : (p : Plan) (s : Said) (t n : ℕ) (x : Player) → IsPlayerFor p s t n x → IsWindow (net_of p) t (t + n)
 window_of p s t n x h = longest_is p t n h.window
+
+-- and has no breach
+pub calm_of : (p : Plan) (s : Said) (t n : ℕ) (x : Player) → IsPlayerFor p s t n x → IsCalm p s (t + n)
+calm_of p s t n x h = record {
+  read = h.at.read;
+  end = h.end;
+  calm = (fresh_window (net_of p) (course_of s) t n x.safe h.at.fresh h.safe h.at.calm).1;
+}
 
 pub ready_of : (p : Plan) (s : Said) (t n : ℕ) (x : Player) (ps : List Piece) → ps ≡ x.pieces.items → IsPlayerFor p s t n x → AreReady p s t n ps
 ready_of p s t n x ps same h = record {

@@ -5,3 +5,4 @@ pub mod Windows
 pub mod Pieces
 pub mod Totals
 pub mod Player
+pub mod Apart

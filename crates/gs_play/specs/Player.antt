@@ -3,7 +3,7 @@ use Rattle.std.specs.Prelude.{◌≡◌, ℕ, ◌+◌, ◌<◌, ◌≤◌, lengt
 use Rattle.gs_plan.specs.Plans.{text_of}
 use Rattle.gs_plan.specs.declared.plan.Plan.{Plan}
 use Rattle.gs_script.specs.Script.{Said}
-use Rattle.gs_run.specs.Net.{Net, neighbour, neighbours}
+use Rattle.gs_run.specs.Net.{neighbour, neighbours}
 use Rattle.gs_run.specs.Nets.{net_of}
 use Rattle.gs_calendar.specs.Calendar.{heard_at}
 use Rattle.gs_calendar.specs.Course.{course_of}

@@ -1,5 +1,6 @@
-ghost use Rattle.std.specs.Prelude.{◌≡◌, ◌+◌, ◌<◌, ◌≤◌, ℕ, suc, length, slice_index_or, OnOk};
+ghost use Rattle.std.specs.Prelude.{◌≡◌, ◌+◌, ◌<◌, ◌≤◌, ℕ, suc, length, slice_index_or, IfNone, IfSome, OnOk};
 ghost use Rattle.gs_plan.specs.Plans.{text_of};
+ghost use Rattle.gs_plan.specs.declared.plan.Plan.{Plan};
 ghost use Rattle.gs_run.specs.Nets.{net_of};
 ghost use Rattle.gs_run.specs.Net.{Net, neighbours};
 ghost use Rattle.gs_calendar.specs.Course.{Course, course_of};
@@ -8,6 +9,7 @@ ghost use Rattle.gs_calendar.specs.inside.Transits.{Has};
 ghost use Rattle.gs_seat.specs.Held.{AreSentIn, IsWindow};
 ghost use Rattle.gs_piece.specs.Nodes.{AllHanded, handed_to};
 ghost use Rattle.gs_piece.specs.Pieces.{IsPiece, IsPieceIn};
+ghost use Rattle.gs_piece.specs.Senders.{IsFirstSender, NoneSends};
 ghost use Rattle.gs_piece.specs.declared.piece.Piece.{Piece};
 ghost use Rattle.gs_play.specs.Pieces.{ArePieces, ArePiecesIn, CanEnd, handed_below};
 
@@ -17,14 +19,15 @@ use gs_script::Script;
 use gs_seat::SentBeacon;
 use std::alloc::AllocError;
 
-/// Hands over what all nodes sent in the window, and begins the next.
+/// Hands over what all nodes sent in the window, and begins the next. Counts the ticks and deliveries that
+/// this stands for: what there was to do, about.
 pub(crate) fn hand_over(
     plan: &Plan,
     script: &Script,
     pieces: &mut [Piece],
     size: u32,
     buffer: &mut Vec<SentBeacon>,
-) -> Result<(), AllocError>
+) -> Result<u64, AllocError>
     requires read { IsReadFor (text_of plan.now) script.now }
     requires size { 0 < size }
     requires pieces { (m : ℕ) × (t : ℕ) × (m ≤ t) × (t ≤ script.now.quanta) × IsWindow (net_of plan.now) m t
@@ -34,11 +37,33 @@ pub(crate) fn hand_over(
         → ArePiecesIn (net_of plan.now) (course_of script.now) size m t pieces.old
         → OnOk result (ArePiecesIn (net_of plan.now) (course_of script.now) size t t pieces.new) }
 {
-    for from in 0..plan.topo().nodes() {
-        hand_from(plan, script, pieces, size, from, buffer)?;
+    let mut events: u64 = 0;
+    let mut next = 0;
+    while let Some(from) = first_sender(pieces, size, next) {
+        let more = hand_from(plan, script, pieces, size, from, buffer)?;
+        events = events.saturating_add(more);
+        next = from + 1;
     }
     end_windows(pieces);
-    Ok(())
+    Ok(events)
+}
+
+/// The first node from `from` on that sent anything in the window.
+fn first_sender(pieces: &[Piece], size: u32, from: u32) -> Option<u32>
+    requires size { 0 < size }
+    requires pieces { (p : Plan) × (c : Course) × (by : ℕ → ℕ → ℕ) × (m : ℕ) × (t : ℕ) × (from ≤ (net_of p).nodes)
+        × ArePieces (net_of p) c by size m t pieces.now }
+    ensures some { (net : Net) (c : Course) (by : ℕ → ℕ → ℕ) (m t : ℕ) → ArePieces net c by size m t pieces.now
+        → IfSome result (IsFirstSender net c from 0 net.nodes m t) }
+    ensures none { (net : Net) (c : Course) (by : ℕ → ℕ → ℕ) (m t : ℕ) → ArePieces net c by size m t pieces.now
+        → IfNone result (NoneSends net c from 0 net.nodes m t) }
+{
+    for i in (from / size) as usize..pieces.len() {
+        if let Some(v) = pieces[i].first_sender(from) {
+            return Some(v);
+        }
+    }
+    None
 }
 
 /// Begins the next window in each piece.
@@ -54,7 +79,8 @@ fn end_windows(pieces: &mut [Piece])
     }
 }
 
-/// Hands over to all its neighbours what node `from` sent in the window.
+/// Hands over to all its neighbours what node `from` sent in the window. Counts the ticks that it took and
+/// the deliveries that it makes.
 fn hand_from(
     plan: &Plan,
     script: &Script,
@@ -62,7 +88,7 @@ fn hand_from(
     size: u32,
     from: u32,
     buffer: &mut Vec<SentBeacon>,
-) -> Result<(), AllocError>
+) -> Result<u64, AllocError>
     requires read { IsReadFor (text_of plan.now) script.now }
     requires size { 0 < size }
     requires sender { from < (net_of plan.now).nodes }
@@ -74,16 +100,14 @@ fn hand_from(
         → OnOk result (ArePieces (net_of plan.now) (course_of script.now) (handed_below m t (suc from)) size m t pieces.new) }
 {
     let sent = pieces[(from / size) as usize].sent(from);
-    if sent.is_empty() {
-        return Ok(());
-    }
     buffer.clear();
     buffer.extend_from_slice(sent)?;
     let neighbours = plan.topo().neighbours(from);
     for i in 0..neighbours.len() {
         give(plan, script, pieces, size, from, neighbours[i], buffer)?;
     }
-    Ok(())
+    let each = u64::from(plan.text().every).saturating_add(neighbours.len() as u64);
+    Ok(each.saturating_mul(buffer.len() as u64))
 }
 
 /// Node `to` takes over what its neighbour `from` sent in the window.

@@ -10,6 +10,7 @@ pub use playing::play;
 mod gathering;
 mod handing;
 mod laws;
+mod load;
 mod player;
 mod playing;
 mod running;

@@ -13,6 +13,7 @@ ghost use Rattle.gs_calendar.specs.Stale.{breach_upto};
 ghost use Rattle.gs_calendar.specs.Stops.{StopsAt};
 
 use crate::handing::hand_over;
+use crate::load::Load;
 use crate::running::run_pieces;
 use crate::staleness::look_ahead;
 use crate::starting::pieces_of;
@@ -41,6 +42,7 @@ pub(crate) struct Player {
     safe: u32,
     totals: Totals,
     buffer: Vec<SentBeacon>,
+    load: Load,
 }
 
 impl Player {
@@ -66,6 +68,7 @@ impl Player {
             safe: plan.text().age,
             totals: Totals::start(alloc, plan)?,
             buffer: Vec::new(alloc),
+            load: Load::unknown(),
         })
     }
 
@@ -76,8 +79,8 @@ impl Player {
         self.quanta
     }
 
-    /// Plays the next window: the first by a thread for each piece, and the later ones in turn. An estimate
-    /// of where threads pay is to come.
+    /// Plays the next window: by threads where the window before it had enough to do that they pay, and in
+    /// turn else. The first goes by a thread for each piece.
     pub(crate) fn window<R: Threads + Sync, G: Gate>(
         &mut self,
         rt: &R,
@@ -122,11 +125,7 @@ impl Player {
         ensures { (t : ℕ) → IsPlayerFor plan.now script.now t n self.old
             → OnOk result (IsPlayerAt plan.now script.now (t + n) self.new) }
     {
-        let some = if self.quanta == 0 {
-            1
-        } else {
-            self.pieces.len()
-        };
+        let some = self.load.share(self.pieces.len(), n);
         run_pieces(
             rt,
             plan,
@@ -138,7 +137,8 @@ impl Player {
             n,
         );
         self.totals.add_window(plan, &self.pieces, n)?;
-        hand_over(plan, script, &mut self.pieces, self.size, &mut self.buffer)?;
+        let events = hand_over(plan, script, &mut self.pieces, self.size, &mut self.buffer)?;
+        self.load = Load::of_window(events, n);
         self.quanta += n;
         Ok(())
     }

@@ -2,7 +2,7 @@ ghost use Rattle.std.specs.Prelude.{◌≤◌};
 
 use crate::{PlayStop, play, scripts_keep_bounds};
 use gs_gate::{Gate, PlainGate};
-use gs_gates::{CountGate, Rendezvous};
+use gs_gates::{CountGate, PairGate, Rendezvous};
 use gs_level::{Peak, Report};
 use gs_plan::{Plan, check};
 use gs_planfile::{PlanText, Shape, base};
@@ -197,6 +197,36 @@ fn two_workers_run_at_the_same_time(rt: HostRuntime) -> Result<(), Fail> {
     let gate = Rendezvous::new();
     let report = played_by(&rt, &ring, "quanta,2000\ndrift,0,1,2000,10001", 2, &gate)?;
     assert!(rt; report.is_ok() && gate.met());
+    Ok(())
+}
+
+/// A ring of 256 nodes with delays of 64 quanta, so that a window has 64.
+fn slow_ring(alloc: Global) -> Result<Plan, Fail> {
+    let mut text = base(alloc, 256);
+    text.shape = Shape::Ring(256);
+    text.delay_min = 64;
+    text.delay_max = 64;
+    text.age = 464;
+    planned(alloc, &text)
+}
+
+#[test]
+fn each_window_with_much_to_do_goes_by_threads(rt: HostRuntime) -> Result<(), Fail> {
+    let plan = slow_ring(rt.alloc())?;
+    let gate = PairGate::new();
+    let report = played_by(&rt, &plan, "quanta,256\ntick,*,1,256,1", 2, &gate)?;
+    assert!(rt; report.is_ok());
+    assert_eq!(rt; gate.met(), 4);
+    Ok(())
+}
+
+#[test]
+fn windows_with_little_to_do_go_in_turn_after_the_first(rt: HostRuntime) -> Result<(), Fail> {
+    let plan = slow_ring(rt.alloc())?;
+    let gate = PairGate::within(1000);
+    let report = played_by(&rt, &plan, "quanta,1024", 2, &gate)?;
+    assert!(rt; report.is_ok());
+    assert!(rt; gate.met() <= 1);
     Ok(())
 }
 

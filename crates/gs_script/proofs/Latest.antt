@@ -1,16 +1,22 @@
 -- The places that are kept for a part of the records.
-use Rattle.std.proofs.Common.{zero, suc, add-one, Some, ◌&&◌, ◌≡◌, ◌∙◌, ◌<◌, ◌≤◌, ◌+◌, ℕ, List, [], ◌∷◌, ◌++◌, length, drop, take, filter, get_or, cond, Bool, true, false, refl, sym, ap}
+use Rattle.std.proofs.Common.{zero, suc, add-one, Some, ◌&&◌, ◌≡◌, ◌∙◌, ◌<◌, ◌≤◌, ◌+◌, ◌-◌, arith, ℕ, List, [], ◌∷◌, ◌++◌, length, drop, take, filter, get_or, slice_index_or, subst, cond, Bool, true, false, refl, sym, ap}
 use Rattle.std.specs.Prelude.{slice_get}
-use Rattle.std.proofs.lemmas.List.{append-nil, drop_all, drop_more, take_all}
+use Rattle.std.proofs.lemmas.List.{append-nil, get_or-map, length-map, drop_all, drop_more, take_all}
 use Rattle.std.proofs.lemmas.List.Elements.{filter-append, filter_more}
 use Rattle.std.proofs.lemmas.Bool.{and_parts}
 use Rattle.gs_script.specs.declared.line.Line.{Line}
+use Rattle.gs_script.specs.declared.line.Who.{Who}
 use Rattle.gs_script.specs.declared.line.Setting.{Setting}
 use Rattle.gs_script.specs.declared.line.Setting.TheVariants as sets
 use Rattle.gs_script.specs.declared.line.Part.{Part}
 use Rattle.gs_script.specs.declared.line.Part.TheVariants as part
 use Rattle.gs_script.specs.declared.line.Who.TheVariants.{Every, One}
-use Rattle.gs_script.specs.inside.Kept.{home, home_of, is_at, is_in, is_same, latest}
+use Rattle.gs_script.specs.inside.Kept.{home, home_of, homes_in, is_at, is_in, is_same, latest}
+
+-- any record of some
+some_line : (lines : List Line) → 0 < length lines → Line
+some_line [] h = absurd (omega (arith, h))
+some_line (l ∷ lines) h = l
 
 -- no record is left
 pub latest-end : (p : Setting → Bool) (lines : List Line) (i : ℕ) → length lines ≤ i → latest p i (drop i lines) ≡ []
@@ -26,6 +32,27 @@ latest-more p lines i l h e = rw (drop_more lines i l h, e)
 pub latest-same : (p : Setting → Bool) (lines : List Line) (i : ℕ) (l : Line) → i < length lines → p (get_or lines i l).setting ≡ false → latest p i (drop i lines) ≡ latest p (i + 1) (drop (i + 1) lines)
 unfolding latest
 latest-same p lines i l h e = rw (drop_more lines i l h, e) (append-nil _)
+
+-- so where a loop goes down to the place before
+pub latest_down-more : (p : Setting → Bool) (lines : List Line) (i : ℕ) → 0 < i → i ≤ length lines → ((l : Line) → p (get_or lines (i - 1) l).setting ≡ true)
+    → latest p (i - 1) (drop (i - 1) lines) ≡ latest p i (drop i lines) ++ (i - 1) ∷ []
+latest_down-more p lines i some inside e =
+    let l : Line = some_line lines (omega (arith, some, inside)) in
+    let same : i - 1 + 1 ≡ i = omega (arith, some) in
+    latest-more p lines (i - 1) l (omega (arith, some, inside)) (e l) ∙ ap (λ (k : ℕ). latest p k (drop k lines) ++ (i - 1) ∷ []) same
+
+pub latest_down-same : (p : Setting → Bool) (lines : List Line) (i : ℕ) → 0 < i → i ≤ length lines → ((l : Line) → p (get_or lines (i - 1) l).setting ≡ false)
+    → latest p (i - 1) (drop (i - 1) lines) ≡ latest p i (drop i lines)
+latest_down-same p lines i some inside e =
+    let l : Line = some_line lines (omega (arith, some, inside)) in
+    let same : i - 1 + 1 ≡ i = omega (arith, some) in
+    latest-same p lines (i - 1) l (omega (arith, some, inside)) (e l) ∙ ap (λ (k : ℕ). latest p k (drop k lines)) same
+
+-- who keeps the record at a place
+pub home_at : (homes : List Who) (lines : List Line) (i : ℕ) (l : Line) (w : Who) → homes ≡ homes_in lines → i < length homes → slice_index_or homes i w ≡ home (slice_index_or lines i l).setting
+home_at homes lines i l w same inside =
+    ap (λ (xs : List Who). slice_index_or xs i w) same
+    ∙ get_or-map (λ (x : Line). home x.setting) lines i l w (subst (λ (n : ℕ). i < n) (ap length same ∙ length-map lines (λ (x : Line). home x.setting)) inside)
 
 pub ruleset steps = (latest-end, latest-more, latest-same)
 

@@ -1,9 +1,9 @@
 -- Runs that ascend: one more, two lists of them as one, and which of them a quantum is in.
-use Rattle.std.proofs.Common.{◌≡◌, ◌∙◌, ◌<◌, ◌≤◌, ◌+◌, ◌-◌, ◌^◌, ℕ, nat_le, Bool, true, false, List, [], ◌∷◌, ◌++◌, length, drop, get_or, cond, max, min, ◌&&◌, ◌⊎◌, zero, suc, inl, inr, refl, sym, ap, arith, append_assoc, if◌then◌else◌}
+use Rattle.std.proofs.Common.{◌≡◌, ◌==◌, ◌∙◌, ◌<◌, ◌≤◌, ◌+◌, ◌-◌, ◌^◌, ℕ, nat_le, Bool, true, false, List, [], ◌∷◌, ◌++◌, length, drop, get_or, cond, max, min, ◌&&◌, ◌⊎◌, zero, suc, inl, inr, refl, sym, ap, arith, append_assoc, if◌then◌else◌}
 use Rattle.std.specs.List.Sorted.{IsNonDecreasingBy}
-use Rattle.std.proofs.lemmas.Bool.{le-leb, lt-leb}
+use Rattle.std.proofs.lemmas.Bool.{false≢true, le-leb, lt-leb, ne_eqb}
 use Rattle.std.proofs.lemmas.Bool.Decides.{nat_tests}
-use Rattle.std.proofs.lemmas.List.{append-nil, drop_all, drop_more}
+use Rattle.std.proofs.lemmas.List.{append-nil, get_or_default, drop_all, drop_more}
 use Rattle.gs_script.specs.declared.run.Run.{Run}
 use Rattle.gs_script.specs.Lasts.{Lasts}
 use Rattle.gs_script.specs.inside.Runs.{Rise, value_at, value_or}
@@ -196,6 +196,19 @@ run_lasts t xs i r before inside is below = record {
       passed_value s xs i (λ j d less there. (let b = before j d less there in omega (arith, b, from)))
       ∙ rw (drop_more xs i r inside, ← is) (here_value s r (drop (i + 1) xs) to);
 }
+
+-- where a run has ended, all before it have
+pub all_behind : (t : ℕ) (xs : List Run) (k : ℕ) (r : Run) → Rise 0 xs → k < length xs → r ≡ get_or xs k r → r.until < t
+    → (j : ℕ) (d : Run) → j < suc k → j < length xs → (get_or xs j d).until < t
+all_behind t xs k r up inside is ended j d less there =
+    let order = Rise-ordered 0 xs up j k d (omega (arith, less)) inside in
+    let same = ap (λ (x : Run). x.until) (is ∙ get_or_default xs k r d inside) in
+    omega (arith, order, same, ended)
+
+-- of no runs none is left
+pub no_runs : (xs : List Run) → (length xs == 0) ≡ true → length xs ≡ 0
+no_runs [] e = refl
+no_runs (x ∷ xs) e = absurd (false≢true (sym (ne_eqb (length (x ∷ xs)) 0 (λ z. omega (arith, z))) ∙ e))
 
 -- behind the last
 pub none_lasts : (t u : ℕ) (xs : List Run) → ((j : ℕ) (d : Run) → j < length xs → (get_or xs j d).until < t) → t ≤ u → Lasts (value_at xs) t u 0

@@ -3,7 +3,7 @@ ghost use Rattle.gs_topo.specs.Graph.{Adjacent};
 ghost use Rattle.gs_plan.specs.Plans.{text_of};
 ghost use Rattle.gs_plan.specs.Shapes.{graph_of_text};
 ghost use Rattle.gs_script.specs.inside.Kept.{AreBeacons, HasAllWays, HasNodes, IsClock, IsNode, IsSpan, IsStar, IsWay, Paints};
-ghost use Rattle.gs_script.specs.inside.Kept.{home, home_of, is_same, last_number, latest, least_between};
+ghost use Rattle.gs_script.specs.inside.Kept.{home, home_of, homes_in, is_same, last_number, latest, least_between};
 ghost use Rattle.gs_script.specs.Lines.{delay_said, gap_said, inc_said, loss_said};
 ghost use Rattle.gs_script.specs.Lasts.{Lasts};
 ghost use Rattle.gs_script.specs.declared.line.Part.TheVariants as part;
@@ -11,7 +11,7 @@ ghost use Rattle.gs_script.specs.declared.line.Who.TheVariants.{Every, One};
 
 use crate::line::{Line, Part, Who};
 use crate::links::graph;
-use crate::places::{places_at, places_in};
+use crate::places::{homes_of, places_at, places_in};
 use crate::record::MAX_RECORDS;
 use crate::run::Run;
 use crate::runs::Runs;
@@ -212,13 +212,20 @@ fn ways_from(
 }
 
 /// What is kept of a node.
-fn node_of(alloc: Global, plan: &Plan, lines: &[Line], v: u32) -> Result<NodeRecords, AllocError>
+fn node_of(
+    alloc: Global,
+    plan: &Plan,
+    lines: &[Line],
+    homes: &[Who],
+    v: u32,
+) -> Result<NodeRecords, AllocError>
+    requires homes { homes.now ≡ homes_in lines.now }
     requires few { length lines.now ≤ MAX_RECORDS }
     requires spans { All (λ l. IsSpan l.span) lines.now }
     requires node { v < (graph_of_text (text_of plan.now)).nodes }
     ensures { IfOk result (IsNode (text_of plan.now) lines.now v) }
 {
-    let places = places_at(alloc, lines, Who::One(v))?;
+    let places = places_at(alloc, lines, homes, Who::One(v))?;
     let clock = clock_of(alloc, lines, &places, Who::One(v))?;
     let sent = beacons_of(alloc, lines, &places, Who::One(v), Who::Every)?;
     let received = beacons_of(alloc, lines, &places, Who::Every, Who::One(v))?;
@@ -243,9 +250,10 @@ pub(crate) fn nodes_of(
     ensures { IfOk result (λ nodes.
         HasNodes (text_of plan.now) lines.now (graph_of_text (text_of plan.now)).nodes nodes.items) }
 {
+    let homes = homes_of(alloc, lines)?;
     let mut nodes = Vec::new(alloc);
     for v in 0..graph(plan).nodes() {
-        nodes.push(node_of(alloc, plan, lines, v)?)?;
+        nodes.push(node_of(alloc, plan, lines, &homes, v)?)?;
     }
     Ok(nodes)
 }
@@ -256,7 +264,8 @@ pub(crate) fn star_of(alloc: Global, lines: &[Line]) -> Result<StarRecords, Allo
     requires spans { All (λ l. IsSpan l.span) lines.now }
     ensures { IfOk result (IsStar lines.now) }
 {
-    let places = places_at(alloc, lines, Who::Every)?;
+    let homes = homes_of(alloc, lines)?;
+    let places = places_at(alloc, lines, &homes, Who::Every)?;
     let clock = clock_of(alloc, lines, &places, Who::Every)?;
     let beacons = beacons_of(alloc, lines, &places, Who::Every, Who::Every)?;
     Ok(StarRecords { clock, beacons })

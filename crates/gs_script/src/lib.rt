@@ -11,6 +11,7 @@ pub use script::Script;
 mod checks;
 mod fault;
 mod fields;
+mod index;
 mod kept;
 mod laws;
 mod line;

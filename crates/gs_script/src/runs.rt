@@ -1,9 +1,10 @@
-ghost use Rattle.std.specs.Prelude.{List, ◌-◌, ◌^◌, ◌≡◌, ◌+◌, ◌≤◌, ℕ, ◌++◌, ◌∷◌, [], All, IfOk, max, if◌then◌else◌, nat_le};
+ghost use Rattle.std.specs.Prelude.{List, ◌-◌, ◌^◌, ◌≡◌, ◌+◌, ◌≤◌, ℕ, ◌++◌, ◌∷◌, [], All, IfOk, max, if◌then◌else◌, nat_le, true};
 ghost use Rattle.gs_script.specs.inside.Kept.{IsSpan, greatest, number_in};
 ghost use Rattle.gs_script.specs.Lines.{holds};
 ghost use Rattle.gs_script.specs.Lasts.{Lasts};
-ghost use Rattle.gs_script.specs.inside.Runs.{Rise, value_at, value_or};
+ghost use Rattle.gs_script.specs.inside.Runs.{AreBehind, Rise, value_at, value_or};
 
+use crate::index::Index;
 use crate::line::{Line, Span};
 use crate::run::Run;
 use std::alloc::{AllocError, Global};
@@ -14,6 +15,7 @@ use std::marker::Model;
 #[derive(Debug, Drop)]
 pub(crate) struct Runs {
     items: Vec<Run>,
+    index: Index,
 }
 
 impl Model for Runs {
@@ -169,6 +171,40 @@ fn run_in(items: &[Run], t: u32) -> Run
     }
 }
 
+/// Whether all runs before this place end before quantum `t`.
+fn is_behind(items: &[Run], place: usize, t: u32) -> bool
+    requires { Rise 0 items.now }
+    ensures { result ≡ true → AreBehind t items.now place }
+{
+    if place == 0 {
+        return true;
+    }
+    match items.get(place - 1) {
+        Some(run) => run.until < t,
+        None => false,
+    }
+}
+
+/// The value in quantum `t`, and how long it stays the same, where the run is likely to be not far behind
+/// a place.
+fn run_from(items: &[Run], place: usize, t: u32) -> Run
+    requires { Rise 0 items.now }
+    ensures { Lasts (value_at items.now) t result.until result.value }
+{
+    if !is_behind(items, place, t) {
+        return run_in(items, t);
+    }
+    for i in place..items.len() {
+        if t <= items[i].until {
+            return items[i];
+        }
+    }
+    Run {
+        value: 0,
+        until: u32::MAX,
+    }
+}
+
 impl Runs {
     /// Of the records at these places.
     pub(crate) fn of(alloc: Global, lines: &[Line], places: &[u16]) -> Result<Self, AllocError>
@@ -176,13 +212,20 @@ impl Runs {
         ensures { IfOk result (λ runs. (t : ℕ) → value_at runs t ≡ greatest t lines.now places.now) }
     {
         let items = painted(alloc, lines, places)?;
-        Ok(Runs { items })
+        let index = Index::of(alloc, &items)?;
+        Ok(Runs { items, index })
     }
 
     /// The number in quantum `t`, and how long it stays the same.
     pub(crate) fn at(&self, t: u32) -> Run
         ensures { Lasts (value_at self.now) t result.until result.value }
     {
-        run_in(&self.items, t)
+        if self.items.is_empty() {
+            return Run {
+                value: 0,
+                until: u32::MAX,
+            };
+        }
+        run_from(&self.items, self.index.guess(t), t)
     }
 }

@@ -1,5 +1,5 @@
 -- What a seat stands for: one node of a play, alone.
-use Rattle.std.specs.Prelude.{ℕ, ◌+◌, ◌≤◌, min}
+use Rattle.std.specs.Prelude.{◌==◌, ℕ, ◌+◌, ◌≤◌, Bool, length, min, not}
 use Rattle.std.specs.Vec.{vec_capacity}
 use Rattle.gs_units.specs.declared.rate.Mode.{Mode}
 use Rattle.gs_run.specs.Net.{Net}
@@ -35,3 +35,7 @@ step_of s = s.node.inc.value
 
 abbrev pub mode_of : Seat → Mode
 mode_of s = s.node.core.node.mode
+
+-- whether it sent anything in the window
+abbrev pub has_sent : Seat → Bool
+has_sent s = not (length s.sent.items == 0)

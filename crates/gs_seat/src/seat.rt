@@ -37,7 +37,7 @@ pub struct Seat {
 }
 
 impl Seat {
-    ghost use Rattle.gs_seat.specs.Seats.{IsSeatAt, IsSeatIn, mode_of, step_of, wake_of};
+    ghost use Rattle.gs_seat.specs.Seats.{IsSeatAt, IsSeatIn, has_sent, mode_of, step_of, wake_of};
 
     /// Node `v` of a plan at the start of a script that was read for it, with its reading and its clock
     /// at 0.
@@ -135,6 +135,13 @@ impl Seat {
             → IsSeatAt net c v by m t self.now → AreSentIn net c v m t result.now }
     {
         &self.sent
+    }
+
+    /// Whether the node sent anything in the window.
+    pub fn has_sent(&self) -> bool
+        ensures { result ≡ has_sent self.now }
+    {
+        !self.sent.is_empty()
     }
 
     /// Takes over, as node `to`, what its neighbour `from` sent in the window, in turn: what is not lost is

@@ -77,6 +77,10 @@ home (Delay (One v) to quanta) = One v
 home (Loss Every to is_lost) = to
 home (Loss (One v) to is_lost) = One v
 
+-- who keeps each record
+abbrev pub homes_in : List Line → List Who
+homes_in lines = map (λ l. home l.setting) lines
+
 -- the same for a part of the records
 abbrev pub home_of : Part → Who
 home_of (part.Drift node) = node

@@ -1,55 +1,55 @@
-use Rattle.std.proofs.Common.{◌≡◌, ◌+◌, ℕ, suc, arith, ap, sym, ◌∙◌, inl, inr, List, length, slice_index, slice_index_or, slice_set, false, get_or-set_same, get_or-set_other, length-set}
-use Rattle.std.proofs.lemmas.Bool.{cases_eq, false≢true}
-use Rattle.std.proofs.lemmas.List.Sums.{count_by_more_no, count_by_more_yes}
+use Rattle.std.proofs.Common.{◌≡◌, ◌+◌, ◌<◌, ◌≤◌, ℕ, suc, arith, ap, sym, ◌∙◌, inl, inr, List, length, slice_index, slice_index_or, slice_set, true, false, get_or-set_same, get_or-set_other, length-set, rules}
+use Rattle.std.proofs.lemmas.Bool.{cases_eq, cases_lt, false≢true}
 use Rattle.gs_run.specs.Nets.{net_of}
 use Rattle.gs_calendar.specs.Course.{course_of}
 use Rattle.gs_piece.specs.Columns.{clock_at}
+use Rattle.gs_piece.proofs.Blocks.{count_all, count_next}
 use Rattle.gs_piece.proofs.columns.set_fast.Goals as goal
-use Rattle.gs_piece.proofs.columns.set_fast.Goals.{then-fast-i, else-fast-i}
 
 pub loop-i-preserved : goal.loop-i-preserved
 loop-i-preserved c =
-    let at = c.loop-i.i in
-    let inside = c.loop-i-test.true in
-    let was = c.loop-i.invariant in
-    let few = was.few in
     let flags = c.args.fast.now in
+    let from = c.loop-i.from in
+    let at = c.in-Some.i in
+    let r = c.next_clock.result in
     let before = c.loop-i.clocks in
-    elim c.if-fast-i.branch [
-      | then-fast-i w ↦ (let r = w.next_clock.result in
-          let count = was.count in
-          let long = c.requires.clocks in
-          let number = w.number-is in
-          let read : (k : ℕ) → slice_index c.if-fast-i.clocks k ≡ slice_index (slice_set before at r) k = λ k. ap (λ (xs : List ℕ). slice_index xs k) w.clocks-is in
-          record {
-            count = ap length w.clocks-is ∙ length-set before at r ∙ was.count;
-            slow = λ k h no. elim (cases_eq k at) [
-              | inl same ↦ absurd (false≢true (sym no ∙ ap (λ (j : ℕ). slice_index_or flags j false) same ∙ w.if-fast-i.true))
-              | inr other ↦ read k ∙ get_or-set_other before at k r 0 other ∙ was.slow k h no
-            ];
-            fast = λ p s by a m k are h yes. elim (cases_eq k at) [
-              | inl same ↦ read k ∙ ap (λ (j : ℕ). slice_index (slice_set before at r) j) same ∙ get_or-set_same before at r 0 (omega (arith, inside, count, long))
-                  ∙ w.next_clock.ensures p s by a m are ∙ ap (λ (j : ℕ). clock_at (net_of p) (course_of s) (suc c.args.t) (a + j)) (sym same)
-              | inr other ↦ read k ∙ get_or-set_other before at k r 0 other ∙ was.fast p s by a m k are (omega (arith, h, other)) yes
-            ];
-            number = w.number-is ∙ ap (λ (n : ℕ). n + 1) was.number ∙ sym (count_by_more_yes (λ b. b) flags at false inside w.if-fast-i.true);
-            few = omega (arith, number, few);
-          })
-      | else-fast-i w ↦ (let number = w.number-is in
-          let no : slice_index_or flags at false ≡ false = w.if-fast-i.false in
-          record {
-            count = ap length w.clocks-is ∙ was.count;
-            slow = λ k h slow. ap (λ (xs : List ℕ). slice_index xs k) w.clocks-is ∙ was.slow k h slow;
-            fast = λ p s by a m k are h yes. elim (cases_eq k at) [
-              | inl same ↦ absurd (false≢true (sym no ∙ ap (λ (j : ℕ). slice_index_or flags j false) (sym same) ∙ yes))
-              | inr other ↦ ap (λ (xs : List ℕ). slice_index xs k) w.clocks-is ∙ was.fast p s by a m k are (omega (arith, h, other)) yes
-            ];
-            number = w.number-is ∙ was.number ∙ sym (count_by_more_no (λ b. b) flags at false inside no);
-            few = omega (arith, number, few);
-          })
-    ]
+    let was = c.loop-i.invariant in
+    let found : (from ≤ at) × (at < length flags) × (slice_index_or flags at false ≡ true) × ((k : ℕ) → from ≤ k → k < at → slice_index_or flags k false ≡ false) = search rules in
+    let low = found.0 in
+    let inside = found.1 in
+    let few = was.few in
+    let count = was.count in
+    let long = c.requires.clocks in
+    record {
+      count = length-set before at r ∙ was.count;
+      inside = omega (arith, inside);
+      slow = λ k h slow. elim (cases_eq k at) [
+        | inl same ↦ absurd (false≢true (sym slow ∙ ap (λ (j : ℕ). slice_index_or flags j false) same ∙ found.2))
+        | inr other ↦ get_or-set_other before at k r 0 other ∙ was.slow k h slow
+      ];
+      fast = λ p s by a m k are h fast. elim (cases_eq k at) [
+        | inl same ↦ ap (λ (j : ℕ). slice_index (slice_set before at r) j) same ∙ get_or-set_same before at r 0 (omega (arith, inside, count, long))
+            ∙ c.next_clock.ensures p s by a m are ∙ ap (λ (j : ℕ). clock_at (net_of p) (course_of s) (suc c.args.t) (a + j)) (sym same)
+        | inr other ↦ get_or-set_other before at k r 0 other ∙ elim (cases_lt k from) [
+          | inl less ↦ was.fast p s by a m k are less fast
+          | inr left ↦ absurd (false≢true (sym (found.3 k left (omega (arith, h, other))) ∙ fast))
+        ]
+      ];
+      number = ap (λ (n : ℕ). n + 1) was.number ∙ sym (count_next flags from at low inside found.2 found.3);
+      few = omega (arith, few, low);
+    }
 
 pub returns-clause-fast : goal.returns-clause-fast
 returns-clause-fast c = λ p s by a m i are inside fast.
-    let end = c.loop-i-test.false in
-    c.loop-i.invariant.fast p s by a m i are (omega (arith, inside, end)) fast
+    let flags = c.args.fast.now in
+    let none : (k : ℕ) → c.loop-i.from ≤ k → k < length flags → slice_index_or flags k false ≡ false = search rules in
+    elim (cases_lt i c.loop-i.from) [
+      | inl less ↦ c.loop-i.invariant.fast p s by a m i are less fast
+      | inr left ↦ absurd (false≢true (sym (none i left inside) ∙ fast))
+    ]
+
+pub returns-clause-number : goal.returns-clause-number
+returns-clause-number c =
+    let flags = c.args.fast.now in
+    let none : (k : ℕ) → c.loop-i.from ≤ k → k < length flags → slice_index_or flags k false ≡ false = search rules in
+    c.loop-i.invariant.number ∙ sym (count_all flags c.loop-i.from c.loop-i.invariant.inside none)

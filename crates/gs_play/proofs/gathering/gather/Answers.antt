@@ -1,12 +1,9 @@
-use Rattle.std.proofs.Common.{◌≡◌, ℕ, suc, ◌+◌, ◌*◌, ◌<◌, ◌≤◌, ◌^◌, arith, ap, sym, subst, ◌∙◌, min, List, ◌++◌, length, map, rules}
+use Rattle.std.proofs.Common.{◌≡◌, ℕ, suc, ◌+◌, ◌*◌, ◌<◌, ◌^◌, arith, ap, sym, subst, ◌∙◌, min, List, ◌++◌, length, map, rules}
 use Rattle.std.specs.List.{range_with_len}
 use Rattle.std.proofs.Math.Nat.{mul-le-mul_right}
-use Rattle.gs_run.specs.Net.{Net}
-use Rattle.gs_calendar.specs.Course.{Course}
 use Rattle.gs_piece.specs.Columns.{clock_at}
 use Rattle.gs_piece.specs.Pieces.{HasRows, fast_among}
 use Rattle.gs_piece.specs.declared.piece.Piece.{Piece}
-use Rattle.gs_play.specs.Pieces.{HaveRows}
 use Rattle.gs_play.proofs.Gathered.{fast_more, fast_of_all, row_more, row_of_all}
 use Rattle.gs_play.proofs.gathering.gather.Goals as goal
 

@@ -26,20 +26,6 @@ sent-sent-requires c =
     let high = at.high in
     (net, course_of c.args.script.now, handed_below r.0 r.1 c.args.from, k * size, min net.nodes (k * size + size), r.0, r.1, at.low, omega (arith, high, hf), are.each k c.index-pieces-from.result at.few)
 
-pub returns-then-is_empty-clause-pieces : goal.returns-then-is_empty-clause-pieces
-returns-then-is_empty-clause-pieces c = λ m t le end window are.
-    let net = net_of c.args.plan.now in
-    let course = course_of c.args.script.now in
-    let size = c.args.size in
-    let k = c.args.from / size in
-    let all = are.all in
-    let hf = c.requires.sender in
-    let at = piece_of size (length c.args.pieces.now) c.args.from c.requires.size (omega (arith, all, hf)) in
-    let high = at.high in
-    let sent = c.sent-sent.ensures net course (handed_below m t c.args.from) (k * size) (min net.nodes (k * size + size)) m t at.low (omega (arith, high, hf)) (are.each k c.index-pieces-from.result at.few) in
-    let none : c.sent-sent.result.now ≡ [] = no_items c.sent-sent.result.now (sym c.is_empty.ensures ∙ c.if-is_empty.true) in
-    none_hands net course size m t c.args.from c.args.pieces.now le (subst (AreSentIn net course c.args.from m t) none sent) are
-
 pub loop-i-init : goal.loop-i-init
 loop-i-init c = λ m t le end window are. (handed_below m t c.args.from, handing_begins (net_of c.args.plan.now) m t c.args.from, are)
 

@@ -1,4 +1,4 @@
-use Rattle.std.proofs.Common.{◌≡◌, None, sym, subst, rules}
+use Rattle.std.proofs.Common.{◌≡◌, None, sym, subst}
 use Rattle.gs_plan.specs.Plans.{graph_of, text_of}
 use Rattle.gs_level.specs.declared.report.Report.{Report}
 use Rattle.gs_world.specs.RunReports.{IsWithinBounds}

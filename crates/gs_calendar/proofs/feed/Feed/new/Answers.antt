@@ -12,6 +12,7 @@ invariant_of-result c =
       read = record { text = c.requires; bounds = c.quanta.ensures.within };
       nodes = nodes;
       quanta = c.quanta.ensures.value;
+      ahead = c.in_ok-first_ahead.ensures;
       feed = (starts (net_of c.args.plan.now) (course_of c.args.script.now) c.nodes-nodes.result c.in_ok-first_turns.field-0.items c.in_ok-first_turns-2.field-0.items c.in_ok-none_waiting.field-0.items
           nodes c.in_ok-first_turns.ensures.count c.in_ok-first_turns-2.ensures.count c.in_ok-none_waiting.ensures.count c.in_ok-first_turns.ensures.first c.in_ok-none_waiting.ensures.none).0;
     }

@@ -1,9 +1,8 @@
-use Rattle.std.proofs.Common.{◌≡◌, ap, sym, ◌∙◌, List}
+use Rattle.std.proofs.Common.{ap, ◌∙◌, List}
 use Rattle.std.specs.BTreeSet.{insert_key}
 use Rattle.gs_calendar.specs.Due.{Key, key_cmp}
 use Rattle.gs_calendar.specs.inside.Keys.{key_of, keys_of}
 use Rattle.gs_calendar.proofs.Keyed.{insert_keyed}
-use Rattle.gs_calendar.specs.declared.transit.InTransit.{InTransit}
 use Rattle.gs_calendar.proofs.transit.Transit.put.Goals as goal
 
 pub returns-clause-ok : goal.returns-clause-ok

@@ -46,5 +46,5 @@ returns c = λ by a b m t end window low high sent is.
     let taken = c.take_over.ensures (by c.args.to) m t end window sent before in
     let done : IsSeatAt net course c.args.to (handed (by c.args.to) c.args.from t) m t s = search rules in
     nodes_took net course by a b m t i c.args.from c.args.to old c.look.new.self s place high
-    (sets_of i s old c.look.new.self (omega (arith, place, high, seats)) c.look.ensures.same.0 (ap (λ (v : _). v.items) c.look.ensures.same.1) c.look.ensures.steps c.look.ensures.wake c.look.ensures.fast)
+    (sets_of i s old c.look.new.self (omega (arith, place, high, seats)) c.look.ensures.same.0 (ap (λ (v : _). v.items) c.look.ensures.same.1) c.look.ensures.steps c.look.ensures.wake c.look.ensures.fast c.look.ensures.sends)
     done is

@@ -9,6 +9,7 @@ use Rattle.gs_piece.proofs.nodes.Nodes.take_turns.Goals as goal
 
 pub loop-i-init : goal.loop-i-init
 loop-i-init c = record {
+  inside = omega arith;
   count = refl;
   nodes = λ a b m window is. nodes_as (net_of c.args.plan.now) (course_of c.args.script.now) (λ v x. m) a b m (λ i. c.args.t) _ c.args.self.now
       (λ i h. sym (midway_left c.args.t 0 i (omega arith))) is;
@@ -30,7 +31,10 @@ loop-i-preserved c =
     let net = net_of c.args.plan.now in
     let course = course_of c.args.script.now in
     let found : (c.loop-i.from ≤ c.in-Some.i) × (c.in-Some.i < length c.loop-i.self.wake.items) × ((k : ℕ) → c.loop-i.from ≤ k → k < c.in-Some.i → c.args.t + 1 < slice_index c.loop-i.self.wake.items k) = search rules in
+    let behind = found.1 in
+    let long = c.turn.ensures.count in
     record {
+      inside = omega (arith, behind, long);
       count = c.turn.ensures.count ∙ c.loop-i.invariant.count;
       nodes = λ a b m window begun.
           let is = c.loop-i.invariant.nodes a b m window begun in

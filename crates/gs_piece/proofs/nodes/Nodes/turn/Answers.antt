@@ -20,7 +20,7 @@ returns-clause-nodes c = λ a b m window inside is.
     subst (IsSeatIn net course (a + i) m t) (sym c.index_mut.ensures.value)
     (subst (λ n. IsSeatIn net course (a + i) m n (slice_index_or old.seats.items i c.index_mut.result.now)) (midway_left t i i (omega arith)) (is.seat i c.index_mut.result.now inside)) in
     nodes_turned net course a b m t i old c.look.new.self s inside
-    (sets_of i s old c.look.new.self here c.look.ensures.same.0 (ap (λ (v : _). v.items) c.look.ensures.same.1) c.look.ensures.steps c.look.ensures.wake c.look.ensures.fast)
+    (sets_of i s old c.look.new.self here c.look.ensures.same.0 (ap (λ (v : _). v.items) c.look.ensures.same.1) c.look.ensures.steps c.look.ensures.wake c.look.ensures.fast c.look.ensures.sends)
     (subst (λ v. IsSeatIn net course (v + i) m (suc t) s) is.first
     (c.turn.ensures m window (subst (λ v. IsSeatIn net course (v + i) m t c.index_mut.result.now) (sym is.first) begun))) is
 

@@ -1,15 +1,12 @@
-use Rattle.std.proofs.Common.{◌≡◌, ℕ, suc, ◌+◌, ◌<◌, ◌≤◌, arith, ap, sym, ◌∙◌, subst, List, rules}
+use Rattle.std.proofs.Common.{ℕ, suc, ◌≤◌, arith, sym, subst, rules}
 use Rattle.std.proofs.lemmas.Result.{err_from_is_err_and}
-use Rattle.gs_plan.specs.Plans.{text_of}
 use Rattle.gs_run.specs.Nets.{net_of}
 use Rattle.gs_calendar.specs.Course.{course_of}
 use Rattle.gs_calendar.specs.Stale.{breach_upto}
 use Rattle.gs_calendar.specs.Stops.{StopsAt}
 use Rattle.gs_seat.proofs.Aging.{AreFresh}
 use Rattle.gs_piece.specs.Nodes.{none_handed}
-use Rattle.gs_piece.specs.declared.piece.Piece.{Piece}
 use Rattle.gs_play.specs.Pieces.{ArePiecesIn}
-use Rattle.gs_play.specs.Player.{IsPlayerFor}
 use Rattle.gs_play.proofs.OneWindow.{at_own}
 use Rattle.gs_play.proofs.player.Player.next_window.Goals as goal
 

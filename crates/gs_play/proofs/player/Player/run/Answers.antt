@@ -1,4 +1,4 @@
-use Rattle.std.proofs.Common.{◌≡◌, ℕ, suc, ◌+◌, ◌<◌, ◌≤◌, arith, ap, sym, ◌∙◌, subst, List, length, rules}
+use Rattle.std.proofs.Common.{◌≡◌, ℕ, ◌+◌, ◌≤◌, arith, ap, sym, ◌∙◌, subst, List, length, rules}
 use Rattle.std.specs.Vec.{with_items}
 use Rattle.std.proofs.lemmas.List.{with_items_is}
 use Rattle.gs_run.specs.Nets.{net_of}
@@ -9,17 +9,14 @@ use Rattle.gs_play.specs.Pieces.{ArePiecesIn, HaveRows}
 use Rattle.gs_play.specs.Player.{IsPlayerAt}
 use Rattle.gs_play.specs.Totals.{AreTotals}
 use Rattle.gs_play.specs.declared.player.Player.{Player}
-use Rattle.gs_play.proofs.OneWindow.{for_own, ready_of, run_of, some_pieces, window_of}
-use Rattle.gs_play.proofs.player.Player.run.Goals.{then-self-eq0, else-self-eq0}
+use Rattle.gs_play.proofs.OneWindow.{calm_of, for_own, ready_of, run_of, some_pieces, window_of}
 use Rattle.gs_play.proofs.player.Player.run.Goals as goal
 
-pub run_pieces-requires-clause-some : goal.run_pieces-requires-clause-some
-run_pieces-requires-clause-some g c =
+pub share-some-requires : goal.share-some-requires
+share-some-requires g c =
     let some = some_pieces c.args.plan.now c.args.script.now c.requires.0 c.args.self.now c.requires.1.at in
-    elim c.if-self-eq0.branch [
-      | then-self-eq0 w ↦ (let is = w.some-is in omega (arith, is))
-      | else-self-eq0 w ↦ (let is = w.some-is in let len = w.len-some.ensures in omega (arith, is, len, some))
-    ]
+    let len = c.len.ensures in
+    omega (arith, some, len)
 
 pub run_pieces-requires-clause-ready : goal.run_pieces-requires-clause-ready
 run_pieces-requires-clause-ready g c =
@@ -36,9 +33,7 @@ add_window-requires-clause-rows g c =
     let done = run_of p s x.quanta c.args.n x c.deref_mut.result.now new c.deref_mut.ensures.value c.run_pieces.ensures.count c.run_pieces.ensures.run own in
     let long : length new ≡ x.pieces.len = search rules in
     let all : c.deref.result.now ≡ new = c.deref.ensures.value ∙ with_items_is x.pieces new long in
-    let end = own.end in
-    let short = own.at.read.bounds.quanta in
-    (course_of s, x.size, x.quanta, omega (arith, end, short), subst (HaveRows (net_of p) (course_of s) x.size x.quanta c.args.n) (sym all) done.1, own.at.totals)
+    (s, x.size, x.quanta, calm_of p s x.quanta c.args.n x own, subst (HaveRows (net_of p) (course_of s) x.size x.quanta c.args.n) (sym all) done.1, own.at.totals)
 
 pub hand_over-requires-clause-pieces : goal.hand_over-requires-clause-pieces
 hand_over-requires-clause-pieces g c =
@@ -67,9 +62,7 @@ returns g c = λ t is.
     let long : length new ≡ x.pieces.len = search rules in
     let seen : c.deref.result.now ≡ new = c.deref.ensures.value ∙ with_items_is x.pieces new long in
     let all : c.deref_mut-2.result.now ≡ new = c.deref_mut-2.ensures.value ∙ with_items_is x.pieces new long in
-    let end = own.end in
-    let short = own.at.read.bounds.quanta in
-    let added = c.add_window.ensures course x.size x.quanta (omega (arith, end, short)) (subst (HaveRows net course x.size x.quanta n) (sym seen) done.1) own.at.totals in
+    let added = c.add_window.ensures s x.size x.quanta (calm_of p s x.quanta n x own) (subst (HaveRows net course x.size x.quanta n) (sym seen) done.1) own.at.totals in
     let totals : AreTotals p course (x.quanta + n) c.add_window.new.self = search rules in
     let handed = c.hand_over.ensures.pieces x.quanta (x.quanta + n) (omega arith) own.end (window_of p s x.quanta n x own) (subst (ArePiecesIn net course x.size x.quanta (x.quanta + n)) (sym all) done.0) in
     let pieces : ArePiecesIn net course x.size (x.quanta + n) (x.quanta + n) c.hand_over.new.pieces = search rules in
@@ -86,6 +79,7 @@ returns g c = λ t is.
       safe = x.safe;
       totals = c.add_window.new.self;
       buffer = c.hand_over.new.buffer;
+      load = c.of_window-self.result;
     } in
     let result : IsPlayerAt p s (x.quanta + n) next = record {
       read = is.at.read;

@@ -1,6 +1,5 @@
-use Rattle.std.proofs.Common.{◌≡◌, ℕ, ◌+◌, ◌*◌, ◌/◌, ◌%◌, ◌<◌, ◌≤◌, arith, ap, sym, refl, ◌∙◌, subst, min, length, rules}
+use Rattle.std.proofs.Common.{◌≡◌, ◌+◌, ◌*◌, ◌<◌, ◌≤◌, arith, ap, sym, refl, subst, length, rules}
 use Rattle.std.proofs.lemmas.Grind.{div_ceil_times}
-use Rattle.gs_plan.specs.Plans.{text_of}
 use Rattle.gs_run.specs.Nets.{net_of}
 use Rattle.gs_run.proofs.PlanNumbers.{plan_has_numbers}
 use Rattle.gs_calendar.specs.Course.{course_of}

@@ -1,6 +1,6 @@
-use Rattle.std.proofs.Common.{◌≡◌, ℕ, ap, sym, ◌∙◌, arith, List, [], ◌∷◌, replicate, rules}
+use Rattle.std.proofs.Common.{◌≡◌, ℕ, ap, sym, subst, refl, ◌∙◌, arith, List, [], ◌∷◌, replicate, rules}
 use Rattle.gs_plan.specs.Plans.{graph_of}
-use Rattle.gs_level.specs.Tallies.{tally_of}
+use Rattle.gs_lookout.specs.Lookouts.{IsLookout}
 use Rattle.gs_run.specs.Nets.{net_of}
 use Rattle.gs_run.specs.World.{clocks_in}
 use Rattle.gs_seat.specs.Worlds.{world_of}
@@ -14,7 +14,11 @@ returns c = λ course.
     let zeros : c.in_ok-row.row.items ≡ replicate {A = ℕ} (graph_of p).nodes 0 = search rules in
     let row : c.in_ok-row.row.items ≡ clocks_in net (world_of net course 0) = zeros ∙ first_row net course in
     record {
-      tallied = c.new.ensures.value ∙ ap (λ (l : List ℕ). tally_of (graph_of p) (l ∷ [])) (c.deref.ensures.value ∙ row);
+      tallied = record {
+        before = [];
+        rows = refl;
+        is = subst (λ (l : List ℕ). IsLookout (graph_of p) [] l c.new.result) (c.deref.ensures.value ∙ row) c.new.ensures;
+      };
       row = row;
       fast = omega arith;
       few = omega arith;
