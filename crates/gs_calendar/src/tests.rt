@@ -1,8 +1,11 @@
+ghost use Rattle.std.specs.Prelude.{◌≡◌, IfOk};
+ghost use Rattle.gs_plan.specs.Plans.{text_of};
+
 use crate::{Feed, few_losses_never_breach, scripts_are_calm};
 use gs_core::Event;
 use gs_plan::{Plan, check};
 use gs_planfile::base;
-use gs_script::read_script;
+use gs_script::{Script, read_script};
 use std::alloc::Global;
 use std::test::Fail;
 
@@ -28,20 +31,32 @@ fn words(alloc: Global, event: &Event) -> Result<String, Fail> {
     }
 }
 
-/// The events of a script for a line of `n` nodes, in words, and how many there are.
-fn told(alloc: Global, n: u32, script: &str) -> Result<(String, u32), Fail> {
-    let plan = line(alloc, n)?;
-    let script = read_script(alloc, script.as_bytes(), &plan).map_err(|_| "the script is refused")?;
-    let mut feed = Feed::new(alloc, &plan, &script)?;
+/// The events of a feed, in words.
+fn told(alloc: Global, feed: &mut Feed<'_>) -> Result<String, Fail> {
     let mut text = String::new(alloc);
-    for count in 0..100_000 {
+    for _ in 0..100_000 {
         let Some(event) = feed.next(alloc)? else {
-            return Ok((text, count));
+            return Ok(text);
         };
         text.push_str(&words(alloc, &event)?)?;
         text.push_str("; ")?;
     }
     Err("the events do not end")?
+}
+
+/// The script of a text for a plan.
+fn script(alloc: Global, plan: &Plan, text: &str) -> Result<Script, Fail>
+    ensures { IfOk result (λ s. s.text ≡ text_of plan.now) }
+{
+    Ok(read_script(alloc, text.as_bytes(), plan).map_err(|_| "the script is refused")?)
+}
+
+/// The events of a script for a line of `n` nodes, in words.
+fn events(alloc: Global, n: u32, text: &str) -> Result<String, Fail> {
+    let plan = line(alloc, n)?;
+    let script = script(alloc, &plan, text)?;
+    let mut feed = Feed::new(alloc, &plan, &script)?;
+    told(alloc, &mut feed)
 }
 
 /// Scripts for a line of some nodes, with their events.
@@ -93,7 +108,7 @@ const CASES: [(u32, &str, &str); 7] = [
 fn feeds_give_the_events_of_scripts(rt: HostRuntime) -> Result<(), Fail> {
     let alloc = rt.alloc();
     for (nodes, script, wanted) in CASES {
-        let (events, _) = told(alloc, nodes, script)?;
+        let events = events(alloc, nodes, script)?;
         assert_eq!(rt; events.as_str(), wanted, "of {script}");
     }
     Ok(())

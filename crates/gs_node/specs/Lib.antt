@@ -1,2 +1,4 @@
-pub mod TimeRequests
-pub mod TimeLaws
+pub mod Handing
+pub mod Serving
+pub mod Ends
+pub mod inside

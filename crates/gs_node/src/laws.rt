@@ -1,10 +1,7 @@
-ghost use Rattle.gs_node.specs.TimeLaws.{RequestsAsk, RequestsHaveOneSpelling, AnswersTell, AnswersDiffer};
+ghost use Rattle.gs_node.specs.Ends.{IsComplete};
 
-/// The law of time requests: exactly the bytes of a request ask, each with its number; an answer tells
-/// the node, the asker's number and the clock, so that no two answers have the same bytes.
-pub fn time_requests()
-    ensures requests_ask { RequestsAsk }
-    ensures one_spelling { RequestsHaveOneSpelling }
-    ensures answers_tell { AnswersTell }
-    ensures answers_differ { AnswersDiffer }
+/// The law of ends: a run in which nothing failed, nothing halted and nothing differs was done, or had no
+/// memory.
+pub fn completeness()
+    ensures { IsComplete }
 {}

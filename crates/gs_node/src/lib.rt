@@ -1,11 +1,19 @@
-//! The daemon. So far its answer to a time request; see `docs/FORMATS.md`, "Time requests".
+//! The daemon of a node: receivers, a responder and a timer beside each other over one board, and what is
+//! known of all of it when they have stopped. See `docs/THEOREMS.md`, "Daemons".
 #![tactic(auto)]
 
-pub use laws::time_requests;
-pub use responder::answer;
+pub use ends::End;
+pub use laws::completeness;
+pub use serving::{Served, serve};
 
+mod choosing;
+mod ends;
+mod finishing;
+mod joins;
 mod laws;
-mod responder;
+mod running;
+mod seating;
+mod serving;
+mod starts;
 #[cfg(test)]
 mod tests;
-mod time_format;

@@ -25,13 +25,13 @@ use Rattle.gs_tool.specs.Audited.{IsAudited, IsReplayed, audit_answer, replay_an
 use Rattle.gs_tool.specs.AuditsComplete.{AuditsComplete, HasTrace, IsAllowedTrace, IsTakenTrace}
 use Rattle.gs_tool.specs.Commands.{Command}
 use Rattle.gs_tool.specs.Completeness.{HasPlan}
-use Rattle.gs_tool.specs.Plans.{plan_in}
+use Rattle.gs_inputs.specs.Plans.{plan_in}
 use Rattle.gs_tool.specs.Runs.{IsAnswer, IsCommandAnswer}
-use Rattle.gs_tool.specs.Sources.{FilesSeen, IsFault}
+use Rattle.gs_inputs.specs.Sources.{FilesSeen, IsFault}
 use Rattle.gs_tool.specs.TraceInputs.{AreNoTraceInputs, IsAnswerAlong, IsTrace}
-use Rattle.gs_tool.specs.declared.source.Kind.TheVariants as kind
+use Rattle.gs_inputs.specs.declared.source.Kind.TheVariants as kind
 use Rattle.gs_tool.proofs.Completing.{is_completed, never_refused, never_unread, same_plan}
-use Rattle.gs_tool.proofs.Refusing.{IsRefusal, fault_refuses, plan_refusal, refuses}
+use Rattle.gs_inputs.proofs.Refusing.{IsRefusal, fault_refuses, plan_refusal, refuses}
 
 -- ---- inputs
 

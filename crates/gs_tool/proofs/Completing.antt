@@ -18,17 +18,17 @@ use Rattle.gs_cli.specs.Answers.{Answer, Gives}
 use Rattle.gs_tool.specs.Commands as command
 use Rattle.gs_tool.specs.Commands.{Command, command_of}
 use Rattle.gs_tool.specs.Completeness.{Completes, HasPlan, HasScript, IsAtHand, IsCompleted, Plays}
-use Rattle.gs_tool.specs.Inputs.{AreNoInputs, IsAnswerOn, IsAnswerOver}
+use Rattle.gs_inputs.specs.Inputs.{AreNoInputs, IsAnswerOn, IsAnswerOver}
 use Rattle.gs_tool.specs.Orders.{ordered}
-use Rattle.gs_tool.specs.Plans.{plan_in}
+use Rattle.gs_inputs.specs.Plans.{plan_in}
 use Rattle.gs_tool.specs.Runs.{IsAnswer, IsCommandAnswer, IsMigrated, IsPlanned, IsSlotted, IsSlottedOr, IsTold, played, told}
-use Rattle.gs_tool.specs.Scripts.{script_in}
+use Rattle.gs_inputs.specs.Scripts.{script_in}
 use Rattle.gs_tool.specs.Settled.{settled}
 use Rattle.gs_tool.specs.Slotted.{slotted}
-use Rattle.gs_tool.specs.Sources.{FilesSeen, Source, Count, Text, IsRead, IsUnread}
+use Rattle.gs_inputs.specs.Sources.{FilesSeen, Source, Count, Text, IsRead, IsUnread}
 use Rattle.gs_tool.specs.Traced.{IsTraced, traced_status}
-use Rattle.gs_tool.specs.declared.source.Kind.{Kind}
-use Rattle.gs_tool.specs.declared.source.Kind.TheVariants as kind
+use Rattle.gs_inputs.specs.declared.source.Kind.{Kind}
+use Rattle.gs_inputs.specs.declared.source.Kind.TheVariants as kind
 use Rattle.gs_cli.specs.declared.status.Status.{Status}
 use Rattle.gs_cli.specs.declared.status.Status.TheVariants as status
 use Rattle.gs_tool.proofs.Generating.{generated_done}

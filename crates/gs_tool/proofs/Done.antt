@@ -13,12 +13,12 @@ use Rattle.gs_play.proofs.Keeping.{scripts_keep}
 use Rattle.gs_cli.specs.Answers.{Answer, Gives}
 use Rattle.gs_tool.specs.Commands.{Command}
 use Rattle.gs_tool.specs.Headline.{IsPlayWithin, PlaysKeepBounds}
-use Rattle.gs_tool.specs.Inputs.{IsAnswerOver, IsPlan, IsScriptFor}
+use Rattle.gs_inputs.specs.Inputs.{IsAnswerOver, IsPlan, IsScriptFor}
 use Rattle.gs_tool.specs.Runs.{IsAnswer, IsCommandAnswer, IsTold, played, told}
-use Rattle.gs_tool.specs.Sources.{FilesSeen}
+use Rattle.gs_inputs.specs.Sources.{FilesSeen}
 use Rattle.gs_cli.specs.declared.status.Status.{Status}
 use Rattle.gs_cli.specs.declared.status.Status.TheVariants as status
-use Rattle.gs_tool.proofs.Refusing.{no_inputs_refuse}
+use Rattle.gs_inputs.proofs.Refusing.{no_inputs_refuse}
 use Rattle.gs_tool.proofs.ScriptsRead.{script_is_read}
 
 -- the inputs of a command that is done were accepted

@@ -8,10 +8,10 @@ use Rattle.gs_gen.specs.Texts.{plan_text, script_text}
 use Rattle.gs_cli.specs.Answers.{Answer}
 use Rattle.gs_cli.specs.declared.status.Status.TheVariants as status
 use Rattle.gs_tool.specs.Generated.{AreAccepted, IsAnswerOf, IsGenerated, IsUnhindered}
-use Rattle.gs_tool.specs.Plans.{plan_in}
+use Rattle.gs_inputs.specs.Plans.{plan_in}
 use Rattle.gs_tool.specs.Runs.{IsTold, played, told}
-use Rattle.gs_tool.specs.Scripts.{script_in}
-use Rattle.gs_tool.specs.Sources.{Text}
+use Rattle.gs_inputs.specs.Scripts.{script_in}
+use Rattle.gs_inputs.specs.Sources.{Text}
 use Rattle.gs_tool.specs.declared.command.Part.{Part}
 use Rattle.gs_tool.specs.declared.command.Part.TheVariants as part
 use Rattle.gs_tool.proofs.Results.{no_refusal, one_value}

@@ -7,8 +7,6 @@ pub mod InRange
 pub mod OrderTexts
 pub mod OrdersDone
 pub mod Playing
-pub mod Reading
-pub mod Refusing
 pub mod Results
 pub mod ScriptsRead
 pub mod SettleTexts

@@ -11,11 +11,11 @@ use Rattle.gs_calendar.specs.Scripts.{breach_of_script}
 use Rattle.gs_order.proofs.Running.{scripts_are_ordered}
 use Rattle.gs_cli.specs.Answers.{Answer, Gives}
 use Rattle.gs_tool.specs.Commands.{Command, Order}
-use Rattle.gs_tool.specs.Inputs.{IsAnswerOver, IsPlan, IsScriptFor}
+use Rattle.gs_inputs.specs.Inputs.{IsAnswerOver, IsPlan, IsScriptFor}
 use Rattle.gs_tool.specs.Orders.{ordered}
 use Rattle.gs_tool.specs.OrdersAgree.{IsOrderWritten, OrdersAgree}
 use Rattle.gs_tool.specs.Runs.{IsAnswer, IsCommandAnswer, IsTold, told}
-use Rattle.gs_tool.specs.Sources.{FilesSeen}
+use Rattle.gs_inputs.specs.Sources.{FilesSeen}
 use Rattle.gs_cli.specs.declared.status.Status.{Status}
 use Rattle.gs_cli.specs.declared.status.Status.TheVariants as status
 use Rattle.gs_tool.proofs.Done.{over_done}

@@ -8,7 +8,7 @@ use Rattle.gs_tool.specs.Completeness.{Completes}
 use Rattle.gs_tool.specs.Headline.{PlaysKeepBounds}
 use Rattle.gs_tool.specs.OrdersAgree.{OrdersAgree}
 use Rattle.gs_tool.specs.Runs.{IsAnswer, IsCommandAnswer, Runs}
-use Rattle.gs_tool.specs.Sources.{FilesSeen}
+use Rattle.gs_inputs.specs.Sources.{FilesSeen}
 use Rattle.gs_tool.specs.Traced.{TraceRuns}
 use Rattle.gs_cli.specs.declared.status.Status.{Status}
 use Rattle.gs_cli.specs.declared.status.Status.TheVariants as status

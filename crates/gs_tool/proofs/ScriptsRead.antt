@@ -9,8 +9,8 @@ use Rattle.gs_script.specs.declared.fault.ScriptFault.{ScriptFault}
 use Rattle.gs_script.proofs.ReadWithin.{IsReadOf, records_read, steady_read}
 use Rattle.gs_calendar.specs.inside.Feeds.{IsReadFor}
 use Rattle.gs_cli.specs.Words.{number_within}
-use Rattle.gs_tool.specs.Scripts.{said_from, script_in, steady_from}
-use Rattle.gs_tool.specs.Sources.{Source, Count, Text}
+use Rattle.gs_inputs.specs.Scripts.{said_from, script_in, steady_from}
+use Rattle.gs_inputs.specs.Sources.{Source, Count, Text}
 
 -- what a word names is what its text means
 said_read : (t : PlanText) (read : Result Said ScriptFault) → IfOk read (IsReadOf t) → IfOk (said_from read) (IsReadFor t)

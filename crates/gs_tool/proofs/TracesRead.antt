@@ -7,11 +7,11 @@ use Rattle.gs_cli.specs.inside.Stops.{EndsWith, StopsAt, StopsWith}
 use Rattle.gs_cli.specs.declared.reply.Reply.{Reply}
 use Rattle.gs_cli.specs.declared.stop.Stop.{Stop}
 use Rattle.gs_cli.specs.declared.stop.Stop.TheVariants.{Refused, OutOfMemory}
-use Rattle.gs_tool.specs.Plans.{plan_in}
-use Rattle.gs_tool.specs.Sources.{FilesSeen, IsFault, IsFile, IsRead, Source}
+use Rattle.gs_inputs.specs.Plans.{plan_in}
+use Rattle.gs_inputs.specs.Sources.{FilesSeen, IsFault, IsFile, IsRead, Source}
 use Rattle.gs_tool.specs.TraceInputs.{AreNoTraceInputs, IsAnswerAlong}
-use Rattle.gs_tool.specs.declared.source.Kind.TheVariants as kind
-use Rattle.gs_tool.proofs.Reading.{IsLater, both, failed_over, handed_on, read_over, stops_as}
+use Rattle.gs_inputs.specs.declared.source.Kind.TheVariants as kind
+use Rattle.gs_inputs.proofs.Reading.{IsLater, both, failed_over, handed_on, read_over, stops_as}
 
 -- what the second read says of a file holds over both
 file_over : (most : ℕ) (first second : FilesSeen) (word bytes : List ℕ) → IsLater first second → IsFile most second word bytes

@@ -11,8 +11,8 @@ use Rattle.gs_trace.specs.Worlds.{SpellsWorld}
 use Rattle.gs_trace.specs.declared.start.WorldStart.{WorldStart}
 use Rattle.gs_audit.specs.Verdicts.{AreKept, report_at, world_at}
 use Rattle.gs_tool.specs.Commands.{Audit, command_of}
-use Rattle.gs_tool.specs.Inputs.{IsPlan}
-use Rattle.gs_tool.specs.Sources.{FilesSeen}
+use Rattle.gs_inputs.specs.Inputs.{IsPlan}
+use Rattle.gs_inputs.specs.Sources.{FilesSeen}
 use Rattle.gs_tool.specs.TraceInputs.{IsTrace}
 use Rattle.gs_cli.specs.declared.status.Status.{Status}
 use Rattle.gs_cli.specs.declared.status.Status.TheVariants.{Done}

@@ -17,7 +17,7 @@ use Rattle.gs_audit.specs.NodeVerdicts.{TakesAll, node_verdict_of}
 use Rattle.gs_audit.specs.Verdicts.{world_at}
 use Rattle.gs_tool.specs.Commands.{Audit, Replay, command_of}
 use Rattle.gs_tool.specs.Completeness.{HasPlan, IsCompleted}
-use Rattle.gs_tool.specs.Sources.{FilesSeen, HasFailed}
+use Rattle.gs_inputs.specs.Sources.{FilesSeen, HasFailed}
 use Rattle.gs_cli.specs.declared.status.Status.{Status}
 
 -- the word names a file of these bytes that is there, not too long for a trace, and of which no reading failed

@@ -11,12 +11,12 @@ use Rattle.gs_tdma.specs.Faults.{slot_fault}
 use Rattle.gs_tool.specs.Commands as command
 use Rattle.gs_tool.specs.Commands.{Command, Gen, Migrate, Order, Play, Settle, Slots, Trace, command_of}
 use Rattle.gs_tool.specs.Generated.{IsUnhindered}
-use Rattle.gs_tool.specs.Plans.{plan_in}
-use Rattle.gs_tool.specs.Scripts.{script_in}
-use Rattle.gs_tool.specs.Sources.{FilesSeen, Source, Count, Text, HasFailed, IsRead, is_built_in}
+use Rattle.gs_inputs.specs.Plans.{plan_in}
+use Rattle.gs_inputs.specs.Scripts.{script_in}
+use Rattle.gs_inputs.specs.Sources.{FilesSeen, Source, Count, Text, HasFailed, IsRead, is_built_in}
 use Rattle.gs_tool.specs.declared.command.Part.{Part}
-use Rattle.gs_tool.specs.declared.source.Kind.{Kind}
-use Rattle.gs_tool.specs.declared.source.Kind.TheVariants as kind
+use Rattle.gs_inputs.specs.declared.source.Kind.{Kind}
+use Rattle.gs_inputs.specs.declared.source.Kind.TheVariants as kind
 use Rattle.gs_cli.specs.declared.status.Status.{Status}
 use Rattle.gs_cli.specs.declared.status.Status.TheVariants.{Done, OutOfMemory}
 

@@ -8,9 +8,9 @@ use Rattle.gs_calendar.specs.Scripts.{breach_of_script}
 use Rattle.gs_gen.specs.Texts.{plan_text, script_text}
 use Rattle.gs_cli.specs.Answers.{Answer}
 use Rattle.gs_cli.specs.declared.status.Status.TheVariants.{Done}
-use Rattle.gs_tool.specs.Plans.{plan_in}
-use Rattle.gs_tool.specs.Scripts.{script_in}
-use Rattle.gs_tool.specs.Sources.{Text}
+use Rattle.gs_inputs.specs.Plans.{plan_in}
+use Rattle.gs_inputs.specs.Scripts.{script_in}
+use Rattle.gs_inputs.specs.Sources.{Text}
 use Rattle.gs_tool.specs.declared.command.Part.{Part}
 use Rattle.gs_tool.specs.declared.command.Part.TheVariants as part
 

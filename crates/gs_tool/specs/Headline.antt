@@ -9,8 +9,8 @@ use Rattle.gs_world.specs.RunReports.{IsWithinBounds}
 use Rattle.gs_play.specs.Headline.{PlayKeepsBounds}
 use Rattle.gs_play.specs.Scripts.{report_of_script}
 use Rattle.gs_tool.specs.Commands.{Play, command_of}
-use Rattle.gs_tool.specs.Inputs.{IsPlan, IsScriptFor}
-use Rattle.gs_tool.specs.Sources.{FilesSeen}
+use Rattle.gs_inputs.specs.Inputs.{IsPlan, IsScriptFor}
+use Rattle.gs_inputs.specs.Sources.{FilesSeen}
 use Rattle.gs_cli.specs.declared.status.Status.{Status}
 use Rattle.gs_cli.specs.declared.status.Status.TheVariants.{Done}
 

@@ -5,16 +5,12 @@ pub mod Commands
 pub mod Completeness
 pub mod Generated
 pub mod Headline
-pub mod Inputs
 pub mod PlanTexts
 pub mod Orders
 pub mod OrdersAgree
-pub mod Plans
 pub mod Runs
-pub mod Scripts
 pub mod Settled
 pub mod Slotted
-pub mod Sources
 pub mod TraceInputs
 pub mod Traced
 pub mod inside

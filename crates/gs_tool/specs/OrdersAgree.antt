@@ -6,9 +6,9 @@ use Rattle.gs_script.specs.Script.{Said}
 use Rattle.gs_calendar.specs.Scripts.{breach_of_script}
 use Rattle.gs_order.specs.Orders.{AreOrdered, order_of}
 use Rattle.gs_tool.specs.Commands.{Order, command_of}
-use Rattle.gs_tool.specs.Inputs.{IsPlan, IsScriptFor}
+use Rattle.gs_inputs.specs.Inputs.{IsPlan, IsScriptFor}
 use Rattle.gs_tool.specs.Orders.{order_text}
-use Rattle.gs_tool.specs.Sources.{FilesSeen}
+use Rattle.gs_inputs.specs.Sources.{FilesSeen}
 use Rattle.gs_cli.specs.declared.status.Status.{Status}
 use Rattle.gs_cli.specs.declared.status.Status.TheVariants.{Done}
 

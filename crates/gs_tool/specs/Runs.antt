@@ -20,15 +20,15 @@ use Rattle.gs_tool.specs.Commands as command
 use Rattle.gs_tool.specs.Audited.{IsAudited, IsReplayed}
 use Rattle.gs_tool.specs.Commands.{Audit, Command, Gen, Migrate, Order, Play, Replay, Settle, Slots, Trace, command_of, is_trace}
 use Rattle.gs_tool.specs.Generated.{IsGenerated}
-use Rattle.gs_tool.specs.Inputs.{IsAnswerOn, IsAnswerOver}
+use Rattle.gs_inputs.specs.Inputs.{IsAnswerOn, IsAnswerOver}
 use Rattle.gs_tool.specs.Orders.{ordered}
 use Rattle.gs_tool.specs.PlanTexts.{plan_text}
 use Rattle.gs_tool.specs.Settled.{settled}
 use Rattle.gs_tool.specs.Slotted.{slot_refused, slotted}
-use Rattle.gs_tool.specs.Sources.{FilesSeen, are_built_in, is_built_in}
+use Rattle.gs_inputs.specs.Sources.{FilesSeen, are_built_in, is_built_in}
 use Rattle.gs_tool.specs.TraceInputs.{IsAnswerAlong}
 use Rattle.gs_tool.specs.Traced.{IsStarvedAmid, IsTraced}
-use Rattle.gs_tool.specs.declared.source.Kind.TheVariants as kind
+use Rattle.gs_inputs.specs.declared.source.Kind.TheVariants as kind
 use Rattle.gs_cli.specs.declared.status.Status.{Status}
 use Rattle.gs_cli.specs.declared.status.Status.TheVariants as status
 

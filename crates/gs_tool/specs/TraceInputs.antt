@@ -2,9 +2,9 @@
 use Rattle.std.specs.Prelude.{ℕ, ◌⊎◌, List}
 use Rattle.gs_plan.specs.declared.plan.Plan.{Plan}
 use Rattle.gs_cli.specs.Answers.{Answer}
-use Rattle.gs_tool.specs.Inputs.{IsPlan, IsPlanRefused, WasRead}
-use Rattle.gs_tool.specs.Sources.{FilesSeen, IsFault, IsFile, IsUnread}
-use Rattle.gs_tool.specs.declared.source.Kind.TheVariants as kind
+use Rattle.gs_inputs.specs.Inputs.{IsPlan, IsPlanRefused, WasRead}
+use Rattle.gs_inputs.specs.Sources.{FilesSeen, IsFault, IsFile, IsUnread}
+use Rattle.gs_inputs.specs.declared.source.Kind.TheVariants as kind
 
 -- the word names the file of a trace, which has these bytes
 abbrev pub IsTrace : FilesSeen → List ℕ → List ℕ → Type 0

@@ -10,8 +10,8 @@ use Rattle.gs_record.specs.Recorded.{trace_of}
 use Rattle.gs_cli.specs.Answers.{Answer, Gives}
 use Rattle.gs_cli.specs.declared.status.Status.{Status}
 use Rattle.gs_cli.specs.declared.status.Status.TheVariants as status
-use Rattle.gs_tool.specs.Inputs.{IsAnswerOver}
-use Rattle.gs_tool.specs.Sources.{FilesSeen}
+use Rattle.gs_inputs.specs.Inputs.{IsAnswerOver}
+use Rattle.gs_inputs.specs.Sources.{FilesSeen}
 
 -- the status of a trace: a script's breach has its own
 abbrev pub traced_status : Option Breach → Status

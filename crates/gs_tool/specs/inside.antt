@@ -1,4 +1,3 @@
 -- What private functions and proofs speak of: no public contract rests on it.
 pub mod AuditSeen
 pub mod Meaning
-pub mod SourceSeen

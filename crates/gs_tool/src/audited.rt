@@ -7,7 +7,7 @@ ghost use Rattle.gs_cli.specs.inside.Stops.{EndsWith};
 ghost use Rattle.gs_tool.specs.Audited.{IsAudited, IsReplayOf, IsReplayed, audit_answer, mode_word, node_refused};
 ghost use Rattle.gs_tool.specs.Audited.{refused_at, replay_answer, trace_refused};
 ghost use Rattle.gs_tool.specs.inside.AuditSeen.{HasLevels};
-ghost use Rattle.gs_tool.specs.Sources.{seen};
+ghost use Rattle.gs_inputs.specs.Sources.{seen};
 ghost use Rattle.gs_tool.specs.TraceInputs.{IsAnswerAlong};
 
 use crate::trace_input::read_plan_and_trace;

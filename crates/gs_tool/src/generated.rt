@@ -9,9 +9,8 @@ ghost use Rattle.gs_tool.specs.Runs.{IsTold, played};
 
 use crate::answers::played;
 use crate::command::Part;
-use crate::inputs::{Inputs, accepted};
-use crate::source::Source;
 use gs_cli::{Reply, Status, Stop};
+use gs_inputs::{Inputs, Source, accepted};
 use gs_io::Gate;
 use std::alloc::Global;
 use std::thread::Threads;

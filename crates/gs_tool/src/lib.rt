@@ -13,16 +13,13 @@ mod command;
 mod generated;
 #[cfg(test)]
 mod generated_tests;
-mod inputs;
 mod order;
 #[cfg(test)]
 mod order_tests;
 mod order_text;
 mod plan_text;
-mod plans;
 #[cfg(test)]
 mod play_tests;
-mod scripts;
 mod settle;
 #[cfg(test)]
 mod settle_tests;
@@ -31,7 +28,6 @@ mod settle_text;
 mod slot_tests;
 mod slot_text;
 mod slots;
-mod source;
 #[cfg(test)]
 mod tests;
 mod tool;

@@ -4,15 +4,15 @@ ghost use Rattle.std.specs.Prelude.{◌≡◌, ◌≤◌, ◌^◌, IfOk, true};
 ghost use Rattle.gs_plan.specs.Plans.{text_of};
 ghost use Rattle.gs_cli.specs.inside.Reply.{answer_in};
 ghost use Rattle.gs_cli.specs.inside.Stops.{EndsWith};
-ghost use Rattle.gs_tool.specs.Inputs.{IsAnswerOver};
+ghost use Rattle.gs_inputs.specs.Inputs.{IsAnswerOver};
 ghost use Rattle.gs_tool.specs.Runs.{IsTold};
 ghost use Rattle.gs_tool.specs.Settled.{settled};
-ghost use Rattle.gs_tool.specs.Sources.{are_built_in, seen};
+ghost use Rattle.gs_inputs.specs.Sources.{are_built_in, seen};
 
 use crate::answers::stopped;
-use crate::inputs::read_inputs;
 use crate::settle_text::settled_text;
 use gs_cli::{Reply, Status, Stop};
+use gs_inputs::read_inputs;
 use gs_io::Files;
 use gs_plan::Plan;
 use gs_script::Script;

@@ -2,14 +2,13 @@
 //! "Statuses".
 
 ghost use Rattle.std.specs.Prelude.{IfOk, IfErr};
-ghost use Rattle.gs_tool.specs.Inputs.{IsPlan};
-ghost use Rattle.gs_tool.specs.Sources.{seen};
+ghost use Rattle.gs_inputs.specs.Inputs.{IsPlan};
+ghost use Rattle.gs_inputs.specs.Sources.{seen};
 ghost use Rattle.gs_tool.specs.TraceInputs.{AreNoTraceInputs, IsTrace};
 ghost use Rattle.gs_cli.specs.inside.Stops.{StopsWith};
 
-use crate::plans::plan_in;
-use crate::source::{Kind, read_file, read_source};
 use gs_cli::Stop;
+use gs_inputs::{Kind, plan_in, read_file, read_source};
 use gs_io::Files;
 use gs_plan::Plan;
 use std::alloc::Global;

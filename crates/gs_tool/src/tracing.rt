@@ -3,11 +3,11 @@
 
 ghost use Rattle.std.specs.Prelude.{◌≡◌, true};
 ghost use Rattle.gs_plan.specs.Plans.{text_of};
-ghost use Rattle.gs_tool.specs.Sources.{are_built_in, seen};
+ghost use Rattle.gs_inputs.specs.Sources.{are_built_in, seen};
 ghost use Rattle.gs_tool.specs.Traced.{IsTraceEnd, TraceRuns, traced};
 
-use crate::inputs::read_inputs;
 use gs_cli::{Status, Stop};
+use gs_inputs::read_inputs;
 use gs_io::{Files, Sink};
 use gs_plan::Plan;
 use gs_record::{RecordStop, record_script};

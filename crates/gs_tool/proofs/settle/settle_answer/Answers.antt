@@ -1,8 +1,8 @@
 use Rattle.std.proofs.Common.{inl}
 use Rattle.gs_tool.specs.Runs.{IsTold}
 use Rattle.gs_tool.specs.Settled.{settled}
-use Rattle.gs_tool.specs.Sources.{FilesSeen, seen}
-use Rattle.gs_tool.proofs.Reading.{none_over}
+use Rattle.gs_inputs.specs.Sources.{FilesSeen, seen}
+use Rattle.gs_inputs.proofs.Reading.{none_over}
 use Rattle.gs_tool.proofs.settle.settle_answer.Goals as goal
 
 pub returns-in_err-inputs-clause-answer : goal.returns-in_err-inputs-clause-answer

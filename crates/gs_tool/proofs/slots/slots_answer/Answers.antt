@@ -1,7 +1,7 @@
 use Rattle.std.proofs.Common.{inl}
 use Rattle.gs_tool.specs.Runs.{IsSlotted}
-use Rattle.gs_tool.specs.Sources.{FilesSeen, seen}
-use Rattle.gs_tool.proofs.Reading.{none_over}
+use Rattle.gs_inputs.specs.Sources.{FilesSeen, seen}
+use Rattle.gs_inputs.proofs.Reading.{none_over}
 use Rattle.gs_tool.proofs.slots.slots_answer.Goals as goal
 
 pub returns-in_err-inputs-clause-answer : goal.returns-in_err-inputs-clause-answer

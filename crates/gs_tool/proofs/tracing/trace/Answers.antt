@@ -2,8 +2,8 @@
 use Rattle.std.proofs.Common.{inl, inr, refl, subst}
 use Rattle.gs_cli.specs.inside.Reply.{answer_in}
 use Rattle.gs_cli.specs.inside.Stops.{StopsWith}
-use Rattle.gs_tool.specs.Inputs.{AreNoInputs}
-use Rattle.gs_tool.specs.Sources.{FilesSeen, seen}
+use Rattle.gs_inputs.specs.Inputs.{AreNoInputs}
+use Rattle.gs_inputs.specs.Sources.{FilesSeen, seen}
 use Rattle.gs_tool.specs.Traced.{traced}
 use Rattle.gs_tool.proofs.tracing.trace.Goals as goal
 

@@ -1,0 +1,4 @@
+pub mod Spelled
+pub mod Taking
+pub mod Leaving
+pub mod Steps

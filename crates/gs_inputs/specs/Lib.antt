@@ -1,0 +1,5 @@
+pub mod Inputs
+pub mod Plans
+pub mod Scripts
+pub mod Sources
+pub mod inside

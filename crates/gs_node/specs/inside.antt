@@ -1,0 +1,4 @@
+-- What private functions and proofs speak of: no public contract rests on it.
+pub mod Begun
+pub mod Runs
+pub mod Signs

@@ -1,0 +1,355 @@
+ghost use Rattle.std.specs.Prelude.{◌≡◌, ◌≤◌, ◌∷◌, [], map, length, vec_len, None, Err, ◌<◌, true, false, OnOk, OnErr};
+ghost use Rattle.std.specs.Vec.{vec_capacity};
+ghost use Rattle.gs_io.specs.Causes.{Rose};
+ghost use Rattle.gs_board.specs.Slips.{SameSeat};
+ghost use Rattle.gs_callers.specs.Snaps.{first_snap};
+ghost use Rattle.gs_callers.specs.Timed.{IsCutOff, IsInStep};
+ghost use Rattle.gs_node.specs.inside.Begun.{IsReady, of_task};
+ghost use Rattle.gs_node.specs.inside.Runs.{HasReasons, HasRun, begun_with, failed_in, leavings_of, reasons_of};
+
+use crate::joins::join_all;
+use crate::starts::{Begun, start_all, start_one};
+use gs_board::{Seat, Shared};
+use gs_callers::{Listening, TimerStop, run_turns};
+use gs_clock::Clock;
+use gs_crew::{Crew, Refused, Task};
+use gs_gate::Gate;
+use gs_net::{Door, Inlet, Outlet};
+use gs_respond::{Responded, Responding, Rest};
+use gs_units::{Link, NodeParams};
+use gs_view::{Publisher, Reader, Snap};
+use std::alloc::Global;
+use std::sync::Wait;
+use std::thread;
+use std::thread::{Scope, Threads};
+
+/// What the threads leave behind, and what they met.
+pub(crate) struct Ran<C: Clock, V: Clock, I: Inlet, O: Outlet, D: Door> {
+    pub timer: Seat<C>,
+    pub others: Vec<Seat<C>>,
+    pub inlets: Vec<I>,
+    pub outlet: O,
+    pub door: D,
+    pub view_clock: V,
+    pub publisher: Option<Publisher>,
+    pub dropped: u64,
+    /// A start was refused.
+    pub refused: bool,
+    /// Why the timer stopped, and why the responder did.
+    pub stop: Result<(), TimerStop>,
+    pub rest: Rest,
+    /// An inlet failed.
+    pub fault: bool,
+    /// A receiver found the journal full.
+    pub filled: bool,
+    /// A receiver stopped for a reason that a run which was done does not have.
+    pub short: bool,
+}
+
+/// Runs the threads over a board that is shared while they run.
+pub(crate) fn beside<
+    R: Threads + Wait + Sync,
+    C: Clock + Send,
+    V: Clock + Send,
+    I: Inlet + Send,
+    O: Outlet,
+    D: Door + Send,
+    W: Crew,
+    G: Gate,
+>(
+    rt: &R,
+    alloc: Global,
+    board: &Shared<C>,
+    params: &NodeParams,
+    first: Snap,
+    timer: Seat<C>,
+    seats: Vec<Seat<C>>,
+    inlets: Vec<I>,
+    others: Vec<Seat<C>>,
+    back: Vec<I>,
+    outlet: O,
+    door: D,
+    view_clock: V,
+    crew: &mut W,
+    gate: &G,
+    ticks: u32,
+    pace: u64,
+) -> Ran<C, V, I, O, D>
+    requires ready { IsReady params.now timer seats.items (map I.tale inlets.items) (D.Inlet.tale door) (D.Inlet.replies door) (O.sent outlet) }
+    requires others { (others.items ≡ []) × (vec_len inlets ≤ vec_capacity others) }
+    requires back { (back.items ≡ []) × (vec_len inlets ≤ vec_capacity back) }
+    requires first { first ≡ first_snap timer.begun }
+    ensures ran { HasRun (begun_with I.Inlet D.Inlet params.now timer inlets.items door ticks)
+        (map (λ s. s.whose) seats.items) (leavings_of I.Inlet O.Outlet D.Inlet result) }
+    ensures reasons { HasReasons (begun_with I.Inlet D.Inlet params.now timer inlets.items door ticks)
+        (leavings_of I.Inlet O.Outlet D.Inlet result) (failed_in V.Clock I.Inlet O.Outlet D.Inlet result) (reasons_of result) }
+    ensures refused { result.refused ≡ true → Rose (W.faults crew.old) (W.faults crew.new) }
+{
+    let (ran, _crew) = thread::scope(
+        thread::scope_env(),
+        rt,
+        move |scope| -> (Ran<C, V, I, O, D>, &mut W)
+            requires ready { IsReady params.now timer seats.items (map I.tale inlets.items) (D.Inlet.tale door) (D.Inlet.replies door) (O.sent outlet) }
+            requires others { (others.items ≡ []) × (vec_len inlets ≤ vec_capacity others) }
+            requires back { (back.items ≡ []) × (vec_len inlets ≤ vec_capacity back) }
+            requires first { first ≡ first_snap timer.begun }
+            ensures ran { HasRun (begun_with I.Inlet D.Inlet params.entry.now timer inlets.items door ticks)
+                (map (λ s. s.whose) seats.items) (leavings_of I.Inlet O.Outlet D.Inlet result.0) }
+            ensures reasons { HasReasons (begun_with I.Inlet D.Inlet params.entry.now timer inlets.items door ticks)
+                (leavings_of I.Inlet O.Outlet D.Inlet result.0) (failed_in V.Clock I.Inlet O.Outlet D.Inlet result.0) (reasons_of result.0) }
+            ensures refused { result.0.refused ≡ true → Rose (W.faults crew.entry.now) (W.faults result.1.now) }
+            ensures same { result.1.ghost_name ≡ crew.entry.ghost_name }
+        {
+            let ran = work(
+                rt, alloc, scope, board, params, first, timer, seats, inlets, others, back, outlet,
+                door, view_clock, &mut *crew, gate, ticks, pace,
+            );
+            (ran, crew)
+        },
+    );
+    ran
+}
+
+/// Makes the view and the list of what runs, and runs all.
+fn work<
+    's,
+    'e: 's,
+    R: Threads + Wait + Sync + 'e,
+    C: Clock + Send + 'e,
+    V: Clock + Send + 'e,
+    I: Inlet + Send + 'e,
+    O: Outlet,
+    D: Door + Send + 'e,
+    W: Crew,
+    G: Gate,
+>(
+    rt: &'e R,
+    alloc: Global,
+    scope: &Scope<'s, &'e ()>,
+    board: &'e Shared<C>,
+    params: &'e NodeParams,
+    first: Snap,
+    timer: Seat<C>,
+    seats: Vec<Seat<C>>,
+    inlets: Vec<I>,
+    others: Vec<Seat<C>>,
+    back: Vec<I>,
+    outlet: O,
+    door: D,
+    view_clock: V,
+    crew: &mut W,
+    gate: &G,
+    ticks: u32,
+    pace: u64,
+) -> Ran<C, V, I, O, D>
+    requires ready { IsReady params.now timer seats.items (map I.tale inlets.items) (D.Inlet.tale door) (D.Inlet.replies door) (O.sent outlet) }
+    requires others { (others.items ≡ []) × (vec_len inlets ≤ vec_capacity others) }
+    requires back { (back.items ≡ []) × (vec_len inlets ≤ vec_capacity back) }
+    requires first { first ≡ first_snap timer.begun }
+    ensures ran { HasRun (begun_with I.Inlet D.Inlet params.now timer inlets.items door ticks)
+        (map (λ s. s.whose) seats.items) (leavings_of I.Inlet O.Outlet D.Inlet result) }
+    ensures reasons { HasReasons (begun_with I.Inlet D.Inlet params.now timer inlets.items door ticks)
+        (leavings_of I.Inlet O.Outlet D.Inlet result) (failed_in V.Clock I.Inlet O.Outlet D.Inlet result) (reasons_of result) }
+    ensures refused { result.refused ≡ true → Rose (W.faults crew.old) (W.faults crew.new) }
+{
+    let mut begun = Vec::new(alloc);
+    let Ok(()) = begun.reserve(inlets.len()) else {
+        return untouched(
+            params, timer, seats, inlets, outlet, door, view_clock, ticks,
+        );
+    };
+    let Ok((publisher, reader)) = Publisher::new(alloc, params.rate, first) else {
+        return untouched(
+            params, timer, seats, inlets, outlet, door, view_clock, ticks,
+        );
+    };
+    run_all(
+        rt, scope, board, params, publisher, reader, begun, timer, seats, inlets, others, back,
+        outlet, door, view_clock, crew, gate, ticks, pace,
+    )
+}
+
+/// What is left where nothing was started.
+fn untouched<C: Clock, V: Clock, I: Inlet, O: Outlet, D: Door>(
+    params: &NodeParams,
+    timer: Seat<C>,
+    seats: Vec<Seat<C>>,
+    inlets: Vec<I>,
+    outlet: O,
+    door: D,
+    view_clock: V,
+    ticks: u32,
+) -> Ran<C, V, I, O, D>
+    requires ready { IsReady params.now timer seats.items (map I.tale inlets.items) (D.Inlet.tale door) (D.Inlet.replies door) (O.sent outlet) }
+    ensures ran { HasRun (begun_with I.Inlet D.Inlet params.now timer inlets.items door ticks)
+        (map (λ s. s.whose) seats.items) (leavings_of I.Inlet O.Outlet D.Inlet result) }
+    ensures reasons { HasReasons (begun_with I.Inlet D.Inlet params.now timer inlets.items door ticks)
+        (leavings_of I.Inlet O.Outlet D.Inlet result) (failed_in V.Clock I.Inlet O.Outlet D.Inlet result) (reasons_of result) }
+    ensures unrefused { result.refused ≡ false }
+{
+    let _params = params;
+    let _ticks = ticks;
+    Ran {
+        timer,
+        others: seats,
+        inlets,
+        outlet,
+        door,
+        view_clock,
+        publisher: None,
+        dropped: 0,
+        refused: false,
+        stop: Err(TimerStop::Memory),
+        rest: Rest::Open,
+        fault: false,
+        filled: false,
+        short: true,
+    }
+}
+
+/// Starts the receivers and the responder, is the timer, and joins all.
+fn run_all<
+    's,
+    'e: 's,
+    R: Threads + Wait + Sync + 'e,
+    C: Clock + Send + 'e,
+    V: Clock + Send + 'e,
+    I: Inlet + Send + 'e,
+    O: Outlet,
+    D: Door + Send + 'e,
+    W: Crew,
+    G: Gate,
+>(
+    rt: &'e R,
+    scope: &Scope<'s, &'e ()>,
+    board: &'e Shared<C>,
+    params: &'e NodeParams,
+    publisher: Publisher,
+    reader: Reader,
+    begun: Vec<Begun<'s, Listening<'e, R, C, I>>>,
+    timer: Seat<C>,
+    seats: Vec<Seat<C>>,
+    inlets: Vec<I>,
+    others: Vec<Seat<C>>,
+    back: Vec<I>,
+    outlet: O,
+    door: D,
+    view_clock: V,
+    crew: &mut W,
+    gate: &G,
+    ticks: u32,
+    pace: u64,
+) -> Ran<C, V, I, O, D>
+    requires ready { IsReady params.now timer seats.items (map I.tale inlets.items) (D.Inlet.tale door) (D.Inlet.replies door) (O.sent outlet) }
+    requires others { (others.items ≡ []) × (vec_len inlets ≤ vec_capacity others) }
+    requires back { (back.items ≡ []) × (vec_len inlets ≤ vec_capacity back) }
+    requires begun { (begun.items ≡ []) × (vec_len inlets ≤ vec_capacity begun) }
+    requires first { publisher ≡ first_snap timer.begun ∷ [] }
+    ensures ran { HasRun (begun_with I.Inlet D.Inlet params.now timer inlets.items door ticks)
+        (map (λ s. s.whose) seats.items) (leavings_of I.Inlet O.Outlet D.Inlet result) }
+    ensures reasons { HasReasons (begun_with I.Inlet D.Inlet params.now timer inlets.items door ticks)
+        (leavings_of I.Inlet O.Outlet D.Inlet result) (failed_in V.Clock I.Inlet O.Outlet D.Inlet result) (reasons_of result) }
+    ensures refused { result.refused ≡ true → Rose (W.faults crew.old) (W.faults crew.new) }
+{
+    let mut timer = timer;
+    let mut outlet = outlet;
+    let mut others = others;
+    let mut back = back;
+    let mut begun = begun;
+    let mut publisher = publisher;
+    let mut refused = start_all(
+        rt, scope, board, params, seats, inlets, &mut begun, &mut *crew,
+    );
+    let task = Responding::new(rt, board, params.node, door, view_clock, reader);
+    let asked = start_one(scope, task, &mut refused, &mut *crew);
+    let stop = run_unless(
+        refused,
+        rt,
+        board,
+        &mut timer,
+        &mut outlet,
+        &mut publisher,
+        params.links.as_slice(),
+        gate,
+        ticks,
+        pace,
+    );
+    close(rt, board);
+    let met = join_all(rt, params, begun, &mut others, &mut back);
+    let Responded {
+        door,
+        view_clock,
+        rest,
+    } = wait_for_responder(rt, asked).end();
+    Ran {
+        timer,
+        others,
+        inlets: back,
+        outlet,
+        door,
+        view_clock,
+        publisher: Some(publisher),
+        dropped: met.dropped,
+        refused,
+        stop,
+        rest,
+        fault: met.fault,
+        filled: met.filled,
+        short: met.short,
+    }
+}
+
+/// The timer's turns, unless a start was refused.
+fn run_unless<R: Wait, C: Clock, O: Outlet, G: Gate>(
+    refused: bool,
+    rt: &R,
+    board: &Shared<C>,
+    seat: &mut Seat<C>,
+    outlet: &mut O,
+    publisher: &mut Publisher,
+    links: &[Link],
+    gate: &G,
+    ticks: u32,
+    pace: u64,
+) -> Result<(), TimerStop>
+    requires timer { seat.old.whose ≡ None }
+    requires new { seat.old.told ≡ [] }
+    requires step { IsInStep links.now seat.old (O.sent outlet.old) publisher.old }
+    ensures ok { OnOk result (IsInStep links.now seat.new (O.sent outlet.new) publisher.new) }
+    ensures all { OnOk result (length seat.new.told ≡ ticks) }
+    ensures err { OnErr result (IsCutOff links.now seat.new (O.sent outlet.new) publisher.new) }
+    ensures most { length seat.new.told ≤ ticks }
+    ensures same { SameSeat seat.old seat.new }
+    ensures cause { result ≡ Err TimerStop.Send → 0 < O.faults outlet.new }
+{
+    if refused {
+        return Err(TimerStop::NoThread);
+    }
+    run_turns(rt, board, seat, outlet, publisher, links, gate, ticks, pace)
+}
+
+/// Closes the board.
+fn close<R: Wait, C: Clock>(rt: &R, board: &Shared<C>) {
+    board.lock(rt).close();
+}
+
+/// Waits for the responder, if it was started.
+fn wait_for_responder<
+    's,
+    'e,
+    R: Threads + Wait + Sync,
+    C: Clock + Send,
+    V: Clock + Send,
+    D: Door + Send,
+>(rt: &R, one: Begun<'s, Responding<'e, R, C, V, D>>) -> Responding<'e, R, C, V, D>
+    ensures { ⟦<Responding<'e, R, C, V, D> as Task>⟧.name result
+        ≡ of_task ⟦<Responding<'e, R, C, V, D> as Task>⟧.name one.entry }
+{
+    match one {
+        Ok(running) => running.join(rt),
+        Err(refused) => {
+            let Refused { task } = refused;
+            task
+        }
+    }
+}

@@ -1,0 +1,5 @@
+pub mod Getting
+pub mod Handed
+pub mod Pieces
+pub mod Refused
+pub mod Telling

@@ -1,0 +1,10 @@
+pub mod Addresses
+pub mod Lending
+pub mod Lines
+pub mod Nodes
+pub mod Runs
+pub mod Served
+pub mod Statuses
+pub mod Traces
+pub mod Words
+pub mod inside

@@ -1,0 +1,6 @@
+pub mod TimeRequests
+pub mod TimeLaws
+pub mod Items
+pub mod Doors
+pub mod Rests
+pub mod inside
