@@ -44,10 +44,10 @@ in_time net c w from to seq i t s numbers course quanta a same =
     let age : a.quantum + c.delay from to a.quantum ≡ t = a.aged.age in
     let low = course.delay_low from to a.quantum back in
     let high = course.delay_high from to a.quantum back in
-    let soonest = numbers.same_soonest to from in
-    let latest = numbers.same_latest to from in
-    let early : nat_lt w.quanta (s.quantum + net.soonest to from) ≡ false = le-ltb w.quanta (s.quantum + net.soonest to from) (omega (arith, quanta, same, age, low, soonest)) in
-    let late : nat_lt (s.quantum + net.latest to from) w.quanta ≡ false = le-ltb (s.quantum + net.latest to from) w.quanta (omega (arith, quanta, same, age, high, latest)) in
+    let soonest = numbers.same_delay_min to from in
+    let latest = numbers.same_delay_max to from in
+    let early : nat_lt w.quanta (s.quantum + net.delay_min to from) ≡ false = le-ltb w.quanta (s.quantum + net.delay_min to from) (omega (arith, quanta, same, age, low, soonest)) in
+    let late : nat_lt (s.quantum + net.delay_max to from) w.quanta ≡ false = le-ltb (s.quantum + net.delay_max to from) w.quanta (omega (arith, quanta, same, age, high, latest)) in
     rw (early, late, and_right (is_newer (member w to) i s) false refl) refl
 
 calm_delivery : (net : Net) (c : Course) (t : ℕ) (w : World) (from to seq : ℕ) → AreNumbers net → IsCourse net c → Listens net c t w → Arrives net c (suc t) from to seq → why net w (Deliver from to seq) ≡ None

@@ -73,13 +73,13 @@ one_kept net c from to a most numbers course few near short =
 
 -- the greatest age leaves the time for so many lost beacons in a row
 abbrev LeavesTime : Net → ℕ → Type 0
-LeavesTime net most = (from to : ℕ) → Adjacent net from to → (most + 1) * net.every * net.tick + net.latest from to ≤ net.age
+LeavesTime net most = (from to : ℕ) → Adjacent net from to → (most + 1) * net.every * net.tick + net.delay_max from to ≤ net.age
 
 is_fresh : (net : Net) (c : Course) (from to most t : ℕ) → AreNumbers net → IsCourse net c → LeavesTime net most → LosesAtMost net c most → Adjacent net from to
     → t < c.quanta → t < (heard_at net c from to t).quantum + net.age
 is_fresh net c from to most t numbers course leaves few near short =
     let time : ℕ = (most + 1) * (net.every * net.tick) in
-    let late : ℕ = net.latest from to in
+    let late : ℕ = net.delay_max from to in
     let age : time + late ≤ net.age = (let enough = leaves from to near in omega (arith, enough)) in
     elim (cases_lt t (time + late)) [
       | inl early ↦ omega (arith, early, age)

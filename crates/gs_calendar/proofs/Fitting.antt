@@ -5,7 +5,7 @@ use Rattle.gs_topo.specs.Graph as graph
 use Rattle.gs_planfile.specs.declared.text.PlanText.{PlanText}
 use Rattle.gs_plan.specs.declared.plan.Plan.{Plan}
 use Rattle.gs_plan.specs.Accepted.{IsAccepted, IsFine}
-use Rattle.gs_plan.specs.Edges.{edge_text, edge_texts, own_text}
+use Rattle.gs_plan.specs.Edges.{edge_given, edges_given, own_given}
 use Rattle.gs_plan.specs.Plans.{text_of, graph_of}
 use Rattle.gs_plan.specs.Shapes.{graph_of_text}
 use Rattle.gs_plan.proofs.Linking.{has_number, text_at}
@@ -22,8 +22,8 @@ pub record IsCourse (net : Net) (c : Course) : Type 0 where
   pub gap_low : (v t : ℕ) → 1 ≤ c.gap v t
   pub gap_high : (v t : ℕ) → c.gap v t ≤ net.tick
   pub delay_some : (from to t : ℕ) → Adjacent net from to → 1 ≤ c.delay from to t
-  pub delay_low : (from to t : ℕ) → Adjacent net from to → net.soonest from to ≤ c.delay from to t
-  pub delay_high : (from to t : ℕ) → Adjacent net from to → c.delay from to t ≤ net.latest from to
+  pub delay_low : (from to t : ℕ) → Adjacent net from to → net.delay_min from to ≤ c.delay from to t
+  pub delay_high : (from to t : ℕ) → Adjacent net from to → c.delay from to t ≤ net.delay_max from to
   pub short : c.quanta ≤ 2 ^ 20
 
 -- the edges of the script's text are the plan's
@@ -45,26 +45,26 @@ fits p s e is = record {
   inc_high = λ v t. let high = is.inc_high v t in let hi = p.rates.hi in let same = ap (λ (x : PlanText). x.hi) e in omega (arith, high, hi, same);
   gap_low = is.gap_low;
   gap_high = λ v t. let high = is.gap_high v t in let same = ap (λ (x : PlanText). x.tick) e in omega (arith, high, same);
-  delay_some = λ v w t h. (some_delay (edge_text s.text (v, w)).delay_min _ (is.delay_low v w t (adjacent_said p s v w e h))).0;
+  delay_some = λ v w t h. (some_delay (edge_given s.text (v, w)).delay_min _ (is.delay_low v w t (adjacent_said p s v w e h))).0;
   delay_low = λ v w t h.
-      let low = (some_delay (edge_text s.text (v, w)).delay_min _ (is.delay_low v w t (adjacent_said p s v w e h))).1 in
-      let same = ap (λ (x : PlanText). (edge_text x (v, w)).delay_min) e in
+      let low = (some_delay (edge_given s.text (v, w)).delay_min _ (is.delay_low v w t (adjacent_said p s v w e h))).1 in
+      let same = ap (λ (x : PlanText). (edge_given x (v, w)).delay_min) e in
       omega (arith, low, same);
   delay_high = λ v w t h.
       let high = is.delay_high v w t (adjacent_said p s v w e h) in
-      let same = ap (λ (x : PlanText). (edge_text x (v, w)).delay_max) e in
+      let same = ap (λ (x : PlanText). (edge_given x (v, w)).delay_max) e in
       omega (arith, high, same);
   short = let few = is.quanta in omega arith;
 }
 
 -- delays are far below 2^32
-pub near : (p : Plan) (v w : ℕ) → Adjacent (net_of p) v w → (edge_text (text_of p) (v, w)).delay_max ≤ 65536
+pub near : (p : Plan) (v w : ℕ) → Adjacent (net_of p) v w → (edge_given (text_of p) (v, w)).delay_max ≤ 65536
 near p v w h =
     let t : PlanText = text_of p in
     let is : IsAccepted t (graph_of p) = plan_accepted t (graph_of p) p.accepted p.graph in
     let found = has_number (graph_of p) v w h in
-    let at = text_at t (graph_of p) v w found.0 (own_text t) found.1 in
-    let fine : IsFine t (get_or (edge_texts t (graph_of p)) found.0 (own_text t)) = is.edges found.0 (own_text t) at.0 in
-    let same : (get_or (edge_texts t (graph_of p)) found.0 (own_text t)).delay_max ≡ (edge_text t (v, w)).delay_max = λ i. (at.1 i).delay_max in
+    let at = text_at t (graph_of p) v w found.0 (own_given t) found.1 in
+    let fine : IsFine t (get_or (edges_given t (graph_of p)) found.0 (own_given t)) = is.edges found.0 (own_given t) at.0 in
+    let same : (get_or (edges_given t (graph_of p)) found.0 (own_given t)).delay_max ≡ (edge_given t (v, w)).delay_max = λ i. (at.1 i).delay_max in
     let low = fine.near in
     omega (arith, low, same)

@@ -26,13 +26,13 @@ growth-splits rate k =
 
 -- a beacon's estimate: its way is off by at most half the spread, the rest is drift
 pub beacon_is_close : BeaconIsClose
-beacon_is_close rate soonest latest way kept age clock grown e now delay within value read grew =
+beacon_is_close rate delay_min delay_max way kept age clock grown e now delay within value read grew =
     let lo : ℕ = rate.lo in
     let reads = growth-splits rate kept in
     let grows = growth-splits rate (way + kept) in
-    let least : lo * soonest ≤ lo * way = mul-le-mul_left lo delay.0 in
-    let most : lo * way ≤ lo * (soonest + (latest - soonest)) = mul-le-mul_left lo (omega (arith, delay)) in
-    let span : lo * (soonest + (latest - soonest)) ≡ lo * soonest + delay_spread rate.lo soonest latest = mul-add lo soonest (latest - soonest) in
+    let least : lo * delay_min ≤ lo * way = mul-le-mul_left lo delay.0 in
+    let most : lo * way ≤ lo * (delay_min + (delay_max - delay_min)) = mul-le-mul_left lo (omega (arith, delay)) in
+    let span : lo * (delay_min + (delay_max - delay_min)) ≡ lo * delay_min + delay_spread rate.lo delay_min delay_max = mul-add lo delay_min (delay_max - delay_min) in
     let both : lo * (way + kept) ≡ lo * way + lo * kept = mul-add lo way kept in
     let drift : drift_of rate * (way + kept) ≡ drift_of rate * way + drift_of rate * kept = mul-add (drift_of rate) way kept in
     let bound : drift_of rate * (way + kept) ≤ drift_of rate * age = mul-le-mul_left (drift_of rate) within in

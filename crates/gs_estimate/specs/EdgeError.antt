@@ -20,7 +20,7 @@ IsClockGrowth rate k x = IsGrowth rate.lo (top_of rate) k x
 
 -- the delay of an edge, from the least to the greatest
 abbrev pub IsDelay : ℕ → ℕ → ℕ → Type 0
-IsDelay soonest latest k = (soonest ≤ k) × (k ≤ latest)
+IsDelay delay_min delay_max k = (delay_min ≤ k) × (k ≤ delay_max)
 
 -- an estimate is as close to the true clock as the drift and the spread of the delays allow
 pub record IsClose (drift spread estimate clock : ℕ) : Type 0 where
@@ -30,11 +30,11 @@ pub record IsClose (drift spread estimate clock : ℕ) : Type 0 where
 -- An entry that a beacon gave: it told the clock, was `way` quanta under way, and was heard `kept` quanta ago. Its
 -- estimate is close to what the clock has grown to.
 abbrev pub BeaconIsClose : Type 0
-BeaconIsClose = (rate : Rate) (soonest latest way kept age clock grown : ℕ) (e : Entry) (now : ℕ)
-    → IsDelay soonest latest way → way + kept ≤ age
-    → e.value ≡ clock + delay_comp rate.lo soonest latest
+BeaconIsClose = (rate : Rate) (delay_min delay_max way kept age clock grown : ℕ) (e : Entry) (now : ℕ)
+    → IsDelay delay_min delay_max way → way + kept ≤ age
+    → e.value ≡ clock + delay_comp rate.lo delay_min delay_max
     → IsReadingGrowth rate kept (now - e.at) → IsClockGrowth rate (way + kept) grown
-    → IsClose (drift_of rate * age) (delay_spread rate.lo soonest latest) (estimate_of e now) (clock + grown)
+    → IsClose (drift_of rate * age) (delay_spread rate.lo delay_min delay_max) (estimate_of e now) (clock + grown)
 
 -- So is the entry of a start from equal clocks, `kept` quanta ago.
 abbrev pub StartIsClose : Type 0

@@ -11,7 +11,7 @@ use Rattle.gs_planfile.specs.declared.text.PlanText.{PlanText}
 use Rattle.gs_level.specs.declared.tally.Tally.{Tally}
 use Rattle.gs_level.specs.Reports.{first_edge, last_row, peaks_of, report_of}
 use Rattle.gs_level.specs.inside.Running.{added, raised_global, raised_near}
-use Rattle.gs_skew.specs.Skews.{edge_skew, global_skew, greatest_over, near_skew}
+use Rattle.gs_skew.specs.Skews.{edge_skew, global_skew, greatest_over, neighbour_skew}
 use Rattle.gs_level.specs.Tallies.{tally_of}
 use Rattle.gs_skew.proofs.Finding.{find_none}
 use Rattle.gs_skew.proofs.Greatest.{at_most_greatest, greatest_at_most, greatest_push, has_greatest}
@@ -76,25 +76,25 @@ same_find edges a b m n same value =
 
 -- the row of the greatest neighbour skew
 abbrev row_at : List (ℕ × ℕ) → List (List ℕ) → List ℕ
-row_at edges rows = get_or rows (place (near_skew edges) rows) []
+row_at edges rows = get_or rows (place (neighbour_skew edges) rows) []
 
-edge_new : (edges : List (ℕ × ℕ)) (rows : List (List ℕ)) (row : List ℕ) → greatest_over (near_skew edges) rows < near_skew edges row
-    → first_edge edges (rows ++ row ∷ []) ≡ find (λ e. edge_skew row e == near_skew edges row) edges
+edge_new : (edges : List (ℕ × ℕ)) (rows : List (List ℕ)) (row : List ℕ) → greatest_over (neighbour_skew edges) rows < neighbour_skew edges row
+    → first_edge edges (rows ++ row ∷ []) ≡ find (λ e. edge_skew row e == neighbour_skew edges row) edges
 edge_new edges rows row less =
-    let f : List ℕ → ℕ = near_skew edges in
+    let f : List ℕ → ℕ = neighbour_skew edges in
     let value : greatest_over f (rows ++ row ∷ []) ≡ f row = (let p = greatest_push f rows row in omega (arith, p, less)) in
     same_find edges (row_at edges (rows ++ row ∷ [])) row (greatest_over f (rows ++ row ∷ [])) (f row)
     (ap (λ (k : ℕ). get_or (rows ++ row ∷ []) k []) (place_new f rows row less) ∙ get_or-last rows row []) value
 
-edge_old : (edges : List (ℕ × ℕ)) (rows : List (List ℕ)) (row : List ℕ) → near_skew edges row ≤ greatest_over (near_skew edges) rows → first_edge edges (rows ++ row ∷ []) ≡ first_edge edges rows
+edge_old : (edges : List (ℕ × ℕ)) (rows : List (List ℕ)) (row : List ℕ) → neighbour_skew edges row ≤ greatest_over (neighbour_skew edges) rows → first_edge edges (rows ++ row ∷ []) ≡ first_edge edges rows
 edge_old edges [] row more =
-    let f : List ℕ → ℕ = near_skew edges in
+    let f : List ℕ → ℕ = neighbour_skew edges in
     same_find edges (row_at edges (row ∷ [])) row (greatest_over f (row ∷ [])) 0 (ap (λ (k : ℕ). get_or (row ∷ []) k []) (place_of_one f row)) (omega (arith, more))
     ∙ find_both (λ e. edge_skew row e == 0) (λ e. edge_skew [] e == 0) edges
     (λ k d h. eq-eqb (edge_skew row (get_or edges k d)) 0 (let low = at_most_greatest (edge_skew row) edges k d h in omega (arith, low, more)))
     (λ k d h. eq-eqb (edge_skew [] (get_or edges k d)) 0 (omega arith))
 edge_old edges (r ∷ rs) row more =
-    let f : List ℕ → ℕ = near_skew edges in
+    let f : List ℕ → ℕ = neighbour_skew edges in
     same_find edges (row_at edges ((r ∷ rs) ++ row ∷ [])) (row_at edges (r ∷ rs)) (greatest_over f ((r ∷ rs) ++ row ∷ [])) (greatest_over f (r ∷ rs))
     (ap (λ (k : ℕ). get_or ((r ∷ rs) ++ row ∷ []) k []) (place_old f (r ∷ rs) row more) ∙ get_or_append_left (r ∷ rs) (row ∷ []) [] (place f (r ∷ rs)) (inside f r rs))
     (value_old f (r ∷ rs) row more)
@@ -107,21 +107,21 @@ same_tallies a b rows global global_at near near_at near_edge =
 pub tally_push : (g : Graph) (rows : List (List ℕ)) (row : List ℕ) → tally_of g (rows ++ row ∷ []) ≡ added g (tally_of g rows) row
 unfolding added raised_global raised_near
 tally_push g rows row = elim (cases_lt (greatest_over global_skew rows) (global_skew row)) [
-  | inl wider ↦ elim (cases_lt (greatest_over (near_skew g.edges) rows) (near_skew g.edges row)) [
-    | inl steeper ↦ rw (lt-ltb (greatest_over global_skew rows) (global_skew row) wider, lt-ltb (greatest_over (near_skew g.edges) rows) (near_skew g.edges row) steeper)
+  | inl wider ↦ elim (cases_lt (greatest_over (neighbour_skew g.edges) rows) (neighbour_skew g.edges row)) [
+    | inl steeper ↦ rw (lt-ltb (greatest_over global_skew rows) (global_skew row) wider, lt-ltb (greatest_over (neighbour_skew g.edges) rows) (neighbour_skew g.edges row) steeper)
         (same_tallies (tally_of g (rows ++ row ∷ [])) _ count (new_value global_skew rows row wider) (place_new global_skew rows row wider)
-        (new_value (near_skew g.edges) rows row steeper) (place_new (near_skew g.edges) rows row steeper) (edge_new g.edges rows row steeper))
-    | inr level ↦ rw (lt-ltb (greatest_over global_skew rows) (global_skew row) wider, le-ltb (greatest_over (near_skew g.edges) rows) (near_skew g.edges row) level)
+        (new_value (neighbour_skew g.edges) rows row steeper) (place_new (neighbour_skew g.edges) rows row steeper) (edge_new g.edges rows row steeper))
+    | inr level ↦ rw (lt-ltb (greatest_over global_skew rows) (global_skew row) wider, le-ltb (greatest_over (neighbour_skew g.edges) rows) (neighbour_skew g.edges row) level)
         (same_tallies (tally_of g (rows ++ row ∷ [])) _ count (new_value global_skew rows row wider) (place_new global_skew rows row wider)
-        (value_old (near_skew g.edges) rows row level) (place_old (near_skew g.edges) rows row level) (edge_old g.edges rows row level))
+        (value_old (neighbour_skew g.edges) rows row level) (place_old (neighbour_skew g.edges) rows row level) (edge_old g.edges rows row level))
   ]
-  | inr within ↦ elim (cases_lt (greatest_over (near_skew g.edges) rows) (near_skew g.edges row)) [
-    | inl steeper ↦ rw (le-ltb (greatest_over global_skew rows) (global_skew row) within, lt-ltb (greatest_over (near_skew g.edges) rows) (near_skew g.edges row) steeper)
+  | inr within ↦ elim (cases_lt (greatest_over (neighbour_skew g.edges) rows) (neighbour_skew g.edges row)) [
+    | inl steeper ↦ rw (le-ltb (greatest_over global_skew rows) (global_skew row) within, lt-ltb (greatest_over (neighbour_skew g.edges) rows) (neighbour_skew g.edges row) steeper)
         (same_tallies (tally_of g (rows ++ row ∷ [])) _ count (value_old global_skew rows row within) (place_old global_skew rows row within)
-        (new_value (near_skew g.edges) rows row steeper) (place_new (near_skew g.edges) rows row steeper) (edge_new g.edges rows row steeper))
-    | inr level ↦ rw (le-ltb (greatest_over global_skew rows) (global_skew row) within, le-ltb (greatest_over (near_skew g.edges) rows) (near_skew g.edges row) level)
+        (new_value (neighbour_skew g.edges) rows row steeper) (place_new (neighbour_skew g.edges) rows row steeper) (edge_new g.edges rows row steeper))
+    | inr level ↦ rw (le-ltb (greatest_over global_skew rows) (global_skew row) within, le-ltb (greatest_over (neighbour_skew g.edges) rows) (neighbour_skew g.edges row) level)
         (same_tallies (tally_of g (rows ++ row ∷ [])) _ count (value_old global_skew rows row within) (place_old global_skew rows row within)
-        (value_old (near_skew g.edges) rows row level) (place_old (near_skew g.edges) rows row level) (edge_old g.edges rows row level))
+        (value_old (neighbour_skew g.edges) rows row level) (place_old (neighbour_skew g.edges) rows row level) (edge_old g.edges rows row level))
   ]
 ] where
   count : length (rows ++ row ∷ []) ≡ length rows + 1
@@ -132,12 +132,12 @@ pub tally_of_one : (g : Graph) (row : List ℕ) → tally_of g (row ∷ []) ≡ 
   rows = 1;
   global = global_skew row;
   global_at = 0;
-  near = near_skew g.edges row;
+  near = neighbour_skew g.edges row;
   near_at = 0;
-  near_edge = find (λ e. edge_skew row e == near_skew g.edges row) g.edges;
+  near_edge = find (λ e. edge_skew row e == neighbour_skew g.edges row) g.edges;
 }
 tally_of_one g row =
-    let f : List ℕ → ℕ = near_skew g.edges in
+    let f : List ℕ → ℕ = neighbour_skew g.edges in
     same_tallies (tally_of g (row ∷ [])) _ (omega arith) (omega arith) (place_of_one global_skew row) (omega arith) (place_of_one f row)
     (same_find g.edges (row_at g.edges (row ∷ [])) row (greatest_over f (row ∷ [])) (f row) (ap (λ (k : ℕ). get_or (row ∷ []) k []) (place_of_one f row)) (omega arith))
 
@@ -149,12 +149,12 @@ last_push rows row =
     ap (λ (k : ℕ). get_or (rows ++ row ∷ []) k []) e ∙ get_or-last rows row []
 
 -- the row of the greatest neighbour skew has it
-row_has_greatest : (edges : List (ℕ × ℕ)) (rows : List (List ℕ)) → near_skew edges (row_at edges rows) ≡ greatest_over (near_skew edges) rows
+row_has_greatest : (edges : List (ℕ × ℕ)) (rows : List (List ℕ)) → neighbour_skew edges (row_at edges rows) ≡ greatest_over (neighbour_skew edges) rows
 row_has_greatest edges [] =
     let most = greatest_at_most (edge_skew []) edges 0 (λ k d h. omega arith) in
     omega (arith, most)
 row_has_greatest edges (r ∷ rs) =
-    let f : List ℕ → ℕ = near_skew edges in
+    let f : List ℕ → ℕ = neighbour_skew edges in
     eqb-true (f (row_at edges (r ∷ rs))) (greatest_over f (r ∷ rs)) (passes_at_first (λ row. f row == greatest_over f (r ∷ rs)) (r ∷ rs) [] (inside f r rs))
 
 -- an edge is named exactly where there is one
@@ -163,9 +163,9 @@ edge_named [] rows none = refl
 edge_named (e ∷ es) rows none =
     let some = has_greatest (edge_skew (row_at (e ∷ es) rows)) e es e in
     let value = row_has_greatest (e ∷ es) rows in
-    let yes : (edge_skew (row_at (e ∷ es) rows) (get_or (e ∷ es) some.0 e) == greatest_over (near_skew (e ∷ es)) rows) ≡ true =
-    eq-eqb (edge_skew (row_at (e ∷ es) rows) (get_or (e ∷ es) some.0 e)) (greatest_over (near_skew (e ∷ es)) rows) (some.2 ∙ value) in
-    let no = find_none (λ x. edge_skew (row_at (e ∷ es) rows) x == greatest_over (near_skew (e ∷ es)) rows) (e ∷ es) some.0 e some.1 none in
+    let yes : (edge_skew (row_at (e ∷ es) rows) (get_or (e ∷ es) some.0 e) == greatest_over (neighbour_skew (e ∷ es)) rows) ≡ true =
+    eq-eqb (edge_skew (row_at (e ∷ es) rows) (get_or (e ∷ es) some.0 e)) (greatest_over (neighbour_skew (e ∷ es)) rows) (some.2 ∙ value) in
+    let no = find_none (λ x. edge_skew (row_at (e ∷ es) rows) x == greatest_over (neighbour_skew (e ∷ es)) rows) (e ∷ es) some.0 e some.1 none in
     let clash : true ≡ false = sym yes ∙ no in
     cc
 

@@ -11,7 +11,7 @@ use Rattle.gs_plan.specs.Numbers.{kappa_between, numbers_in, numbers_of}
 use Rattle.gs_plan.specs.Plans.{graph_of, text_of}
 use Rattle.gs_plan.specs.Weights.{weight_in}
 use Rattle.gs_plan.specs.declared.edge.EdgeNumbers.{EdgeNumbers}
-use Rattle.gs_plan.specs.Edges.{edge_text, edge_texts}
+use Rattle.gs_plan.specs.Edges.{edge_given, edges_given}
 use Rattle.gs_plan.proofs.Linking.{has_number, numbers_at}
 use Rattle.gs_plan.proofs.Weights.{weights_fit}
 use Rattle.gs_level.specs.Peaks.{peak_of}
@@ -29,9 +29,9 @@ low_for_all p least low v w next =
     let t : PlanText = text_of p in
     let g : Graph = graph_of p in
     let found = has_number (graph_of p) v w next in
-    let d : EdgeNumbers = numbers_in (text_of p) (edge_text (text_of p) (v, w)) in
-    let at = numbers_at (text_of p) (graph_of p) v w found.0 (numbers_in (text_of p) (edge_text (text_of p) (v, w))) found.1 in
-    let count : length (numbers_of t g) ≡ length g.edges = length-map (edge_texts t g) (numbers_in t) ∙ length-map g.edges (edge_text t) in
+    let d : EdgeNumbers = numbers_in (text_of p) (edge_given (text_of p) (v, w)) in
+    let at = numbers_at (text_of p) (graph_of p) v w found.0 (numbers_in (text_of p) (edge_given (text_of p) (v, w))) found.1 in
+    let count : length (numbers_of t g) ≡ length g.edges = length-map (edges_given t g) (numbers_in t) ∙ length-map g.edges (edge_given t) in
     let inside = at.0 in
     let here = slice_get-get_or (numbers_of t g) found.0 d at.0 in
     low found.0 (omega (arith, count, inside)) d (here ∙ ap Some at.1)

@@ -6,7 +6,7 @@ use Rattle.gs_planfile.specs.declared.text.PlanText.{PlanText}
 use Rattle.gs_level.specs.declared.peak.Peak.{Peak}
 use Rattle.gs_level.specs.declared.report.Report.{Report}
 use Rattle.gs_level.specs.Peaks.{peak_of}
-use Rattle.gs_skew.specs.Skews.{edge_skew, global_skew, greatest_over, near_skew}
+use Rattle.gs_skew.specs.Skews.{edge_skew, global_skew, greatest_over, neighbour_skew}
 use Rattle.gs_plan.specs.Weights.{weight_in}
 
 -- the place of the first row at which f is greatest
@@ -16,8 +16,8 @@ first_place f rows = position_or_len (λ row. f row == greatest_over f rows) row
 -- the first edge with the greatest difference of all rows, in the first row that has it
 abbrev pub first_edge : List (ℕ × ℕ) → List (List ℕ) → Option (ℕ × ℕ)
 first_edge edges rows =
-    find (λ e. edge_skew (slice_index_or rows (first_place (near_skew edges) rows) []) e
-    == greatest_over (near_skew edges) rows) edges
+    find (λ e. edge_skew (slice_index_or rows (first_place (neighbour_skew edges) rows) []) e
+    == greatest_over (neighbour_skew edges) rows) edges
 
 -- there is such an edge exactly where there is an edge
 abbrev pub EdgesAreNamed : Type 0
@@ -37,8 +37,8 @@ report_of t g rows fast = record {
   quanta = length rows - 1;
   global = greatest_over global_skew rows;
   global_at = first_place global_skew rows;
-  near = greatest_over (near_skew g.edges) rows;
-  near_at = first_place (near_skew g.edges) rows;
+  near = greatest_over (neighbour_skew g.edges) rows;
+  near_at = first_place (neighbour_skew g.edges) rows;
   near_edge = first_edge g.edges rows;
   levels = peaks_of t g (last_row rows) t.levels;
   fast = fast;

@@ -3,7 +3,7 @@ use Rattle.std.specs.Prelude.{◌≡◌, ℕ, ◌<◌, ◌≤◌, List, length}
 use Rattle.gs_topo.specs.Graph.{Graph}
 use Rattle.gs_level.specs.declared.tally.Tally.{Tally}
 use Rattle.gs_level.specs.Reports.{first_edge, first_place}
-use Rattle.gs_skew.specs.Skews.{global_skew, greatest_over, near_skew}
+use Rattle.gs_skew.specs.Skews.{global_skew, greatest_over, neighbour_skew}
 
 -- the tally of these rows
 abbrev pub tally_of : Graph → List (List ℕ) → Tally
@@ -11,8 +11,8 @@ tally_of g rows = record {
   rows = length rows;
   global = greatest_over global_skew rows;
   global_at = first_place global_skew rows;
-  near = greatest_over (near_skew g.edges) rows;
-  near_at = first_place (near_skew g.edges) rows;
+  near = greatest_over (neighbour_skew g.edges) rows;
+  near_at = first_place (neighbour_skew g.edges) rows;
   near_edge = first_edge g.edges rows;
 }
 

@@ -3,7 +3,7 @@
 
 pub use gs_plan::weights_are_least_sums;
 pub use gs_skew::{
-    ClockRange, global_skew, levels_have_a_network, levels_keep_bounds, potentials_are_skews,
+    ClockRange, global_skew, levels_keep_bounds, potentials_are_skews, premises_can_be_met,
     skew_between,
 };
 pub use laws::edges_are_named;

@@ -1,11 +1,9 @@
 ghost use Rattle.std.specs.Prelude.{◌≡◌, ◌≤◌, ℕ, ◌*◌, ◌-◌, ◌<◌, ◌^◌, fold, length, IfOk};
 ghost use Rattle.gs_topo.specs.Graph.{Adjacent};
-ghost use Rattle.gs_plan.specs.Numbers.{kappa_between};
-ghost use Rattle.gs_plan.specs.Plans.{text_of, graph_of};
+ghost use Rattle.gs_plan.specs.Plans.{graph_of, kappa_of, text_of, weight_of};
 ghost use Rattle.gs_level.specs.Peaks.{peak_of};
 ghost use Rattle.gs_level.specs.Reports.{peaks_of};
 ghost use Rattle.gs_level.specs.inside.Running.{pairs_from, raised};
-ghost use Rattle.gs_plan.specs.Weights.{weight_in};
 
 use crate::peak::{Peak, Peaks};
 use gs_plan::Plan;
@@ -13,7 +11,7 @@ use gs_skew::global_skew;
 use std::alloc::{AllocError, Global};
 
 /// The peak of clocks that are all within their bounds.
-const NOTHING: Peak = Peak {
+const NO_LEAD: Peak = Peak {
     value: 0,
     v: 0,
     w: 0,
@@ -25,18 +23,18 @@ const NOTHING: Peak = Peak {
 /// pairs.
 pub fn potential(plan: &Plan, clocks: &[u64], s: u32) -> Peak
     requires { length clocks.now ≡ (graph_of plan.now).nodes }
-    ensures { result ≡ peak_of (weight_in (text_of plan.now) (graph_of plan.now)) clocks.now s }
+    ensures { result ≡ peak_of (weight_of plan.now) clocks.now s }
 {
     let least = 2 * u128::from(s) * u128::from(least_kappa(plan));
     if u128::from(global_skew(clocks)) <= least {
-        return NOTHING;
+        return NO_LEAD;
     }
     peak_over_pairs(plan, clocks, s)
 }
 
 /// A number that no kappa of an edge is below: the least of them, where there is an edge.
 fn least_kappa(plan: &Plan) -> u64
-    ensures { (v w : ℕ) → Adjacent (graph_of plan.now) v w → result ≤ kappa_between (text_of plan.now) v w }
+    ensures { (v w : ℕ) → Adjacent (graph_of plan.now) v w → result ≤ kappa_of plan.now v w }
 {
     let mut least = u64::MAX;
     for e in 0..plan.topo().edges().len() as u32 {
@@ -48,9 +46,9 @@ fn least_kappa(plan: &Plan) -> u64
 /// The potential of level `s`, by one pass over all pairs.
 fn peak_over_pairs(plan: &Plan, clocks: &[u64], s: u32) -> Peak
     requires { length clocks.now ≡ (graph_of plan.now).nodes }
-    ensures { result ≡ peak_of (weight_in (text_of plan.now) (graph_of plan.now)) clocks.now s }
+    ensures { result ≡ peak_of (weight_of plan.now) clocks.now s }
 {
-    let mut best = NOTHING;
+    let mut best = NO_LEAD;
     for v in 0..plan.topo().nodes() {
         best = best_from(plan, clocks, s, v, best);
     }
@@ -62,7 +60,7 @@ fn peak_over_pairs(plan: &Plan, clocks: &[u64], s: u32) -> Peak
 fn best_from(plan: &Plan, clocks: &[u64], s: u32, v: u32, before: Peak) -> Peak
     requires count { length clocks.now ≡ (graph_of plan.now).nodes }
     requires node { v < length clocks.now }
-    ensures { result ≡ fold (raised (weight_in (text_of plan.now) (graph_of plan.now)) clocks.now s) before
+    ensures { result ≡ fold (raised (weight_of plan.now) clocks.now s) before
         (pairs_from (length clocks.now) v) }
 {
     let mut best = before;
@@ -77,7 +75,7 @@ fn best_from(plan: &Plan, clocks: &[u64], s: u32, v: u32, before: Peak) -> Peak
 fn better(plan: &Plan, clocks: &[u64], s: u32, v: u32, w: u32, best: Peak) -> Peak
     requires count { length clocks.now ≡ (graph_of plan.now).nodes }
     requires nodes { (v < length clocks.now) × (w < length clocks.now) }
-    ensures { result ≡ raised (weight_in (text_of plan.now) (graph_of plan.now)) clocks.now s best (v, w) }
+    ensures { result ≡ raised (weight_of plan.now) clocks.now s best (v, w) }
 {
     let lead = clocks[w as usize].saturating_sub(clocks[v as usize]);
     if lead <= best.value {

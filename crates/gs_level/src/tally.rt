@@ -1,13 +1,13 @@
 ghost use Rattle.std.specs.Prelude.{◌≡◌, ◌+◌, ◌-◌, ◌<◌, ◌^◌, ◌++◌, ◌∷◌, [], ℕ, List, IfOk, length};
-ghost use Rattle.gs_topo.specs.Walks.{IsGraph};
+ghost use Rattle.gs_topo.specs.Walks.{IsTopology};
 ghost use Rattle.gs_plan.specs.Plans.{text_of, graph_of};
 ghost use Rattle.gs_level.specs.Reports.{report_of};
-ghost use Rattle.gs_skew.specs.Skews.{global_skew, near_skew};
+ghost use Rattle.gs_skew.specs.Skews.{global_skew, neighbour_skew};
 
 use crate::potentials::peaks;
 use crate::report::Report;
 use gs_plan::Plan;
-use gs_skew::{first_edge, global_skew, near_skew};
+use gs_skew::{first_edge, global_skew, neighbour_skew};
 use gs_topo::Topology;
 use std::alloc::{AllocError, Global};
 
@@ -33,7 +33,7 @@ impl Tally {
         ensures value { result ≡ tally_of (graph_of plan.now) (clocks.now ∷ []) }
         ensures rows { rows_in result ≡ 1 }
     {
-        let near = near_skew(plan.topo(), clocks);
+        let near = neighbour_skew(plan.topo(), clocks);
         Tally {
             rows: 1,
             global: global_skew(clocks),
@@ -77,7 +77,7 @@ impl Tally {
         requires count { length clocks.now ≡ (graph_of plan.now).nodes }
         requires room { rows_in self.old < 2 ^ 32 - 1 }
         requires global { IsSeenAs (global_in self.old) (global_skew clocks.now) global }
-        requires near { IsSeenAs (near_in self.old) (near_skew (graph_of plan.now).edges clocks.now) near }
+        requires near { IsSeenAs (near_in self.old) (neighbour_skew (graph_of plan.now).edges clocks.now) near }
         ensures value { (rows : List (List ℕ)) → self.old ≡ tally_of (graph_of plan.now) rows
             → self.new ≡ tally_of (graph_of plan.now) (rows ++ clocks.now ∷ []) }
         ensures rows { rows_in self.new ≡ rows_in self.old + 1 }
@@ -115,15 +115,15 @@ impl Tally {
     /// The neighbour skew of a row, as far as it may be above the greatest so far. It is at most the
     /// row's global skew, so most rows are done with without a look at their edges.
     fn near_seen(&self, topo: &Topology, clocks: &[u64], global: u64) -> u64
-        requires graph { IsGraph topo.now }
+        requires graph { IsTopology topo.now }
         requires count { length clocks.now ≡ topo.now.nodes }
         requires global { global ≡ global_skew clocks.now }
-        ensures { IsSeenAs self.now.near (near_skew topo.now.edges clocks.now) result }
+        ensures { IsSeenAs self.now.near (neighbour_skew topo.now.edges clocks.now) result }
     {
         if global <= self.near {
             return global;
         }
-        near_skew(topo, clocks)
+        neighbour_skew(topo, clocks)
     }
 
     /// The tally with one more row, of these skews where they are above those so far.
@@ -132,7 +132,7 @@ impl Tally {
         requires count { length clocks.now ≡ topo.now.nodes }
         requires room { rows_in self < 2 ^ 32 - 1 }
         requires global { IsSeenAs self.global (global_skew clocks.now) global }
-        requires near { IsSeenAs self.near (near_skew topo.now.edges clocks.now) near }
+        requires near { IsSeenAs self.near (neighbour_skew topo.now.edges clocks.now) near }
         ensures value { result ≡ added topo.now self clocks.now }
         ensures rows { rows_in result ≡ rows_in self + 1 }
     {
@@ -164,7 +164,7 @@ impl Tally {
     #[tactic(auto, unfolding(crate::specs::inside::Running::raised_near))]
     fn raised_near(self, topo: &Topology, clocks: &[u64], seen: u64) -> Self
         requires count { length clocks.now ≡ topo.now.nodes }
-        requires near { IsSeenAs self.near (near_skew topo.now.edges clocks.now) seen }
+        requires near { IsSeenAs self.near (neighbour_skew topo.now.edges clocks.now) seen }
         ensures { result ≡ raised_near topo.now.edges self clocks.now }
     {
         if seen > self.near {

@@ -3,7 +3,7 @@ use Rattle.std.specs.Prelude.{◌≡◌, ℕ, ◌+◌, ◌<◌, ◌≤◌, List,
 use Rattle.gs_topo.specs.Graph.{Graph}
 use Rattle.gs_level.specs.Tallies.{tally_of}
 use Rattle.gs_lookout.specs.declared.lookout.Lookout.{Lookout}
-use Rattle.gs_skew.specs.Skews.{global_skew, near_skew}
+use Rattle.gs_skew.specs.Skews.{global_skew, neighbour_skew}
 
 -- From a row to the next no clock grows by more than `by` beyond the growth of another.
 pub record HasGrown (by : ℕ) (old new : List ℕ) : Type 0 where
@@ -16,4 +16,4 @@ pub record IsLookout (g : Graph) (before : List (List ℕ)) (last : List ℕ) (l
   pub tally : lookout.tally ≡ tally_of g (before ++ last ∷ [])
   pub places : length last ≡ g.nodes
   pub global : global_skew last ≤ lookout.ends.most
-  pub near : near_skew g.edges last ≤ lookout.link.most
+  pub near : neighbour_skew g.edges last ≤ lookout.link.most

@@ -1,8 +1,8 @@
 ghost use Rattle.std.specs.Prelude.{◌≡◌, ◌+◌, ◌≤◌, ◌<◌, ◌^◌, length, IsTrue};
 ghost use Rattle.gs_level.specs.Tallies.{IsSeenAs};
-ghost use Rattle.gs_skew.specs.Skews.{global_skew, near_skew};
+ghost use Rattle.gs_skew.specs.Skews.{global_skew, neighbour_skew};
 
-use gs_skew::{global_skew, near_skew, skew_between};
+use gs_skew::{global_skew, neighbour_skew, skew_between};
 use gs_topo::Topology;
 
 /// A bound of the global skew of some clocks, and the two that had it when all were last looked at.
@@ -83,9 +83,9 @@ impl Link {
     /// The first edge whose ends are furthest apart.
     pub(crate) fn of(topo: &Topology, clocks: &[u64]) -> Self
         requires { length clocks.now ≡ topo.now.nodes }
-        ensures { result.most ≡ near_skew topo.now.edges clocks.now }
+        ensures { result.most ≡ neighbour_skew topo.now.edges clocks.now }
     {
-        let most = near_skew(topo, clocks);
+        let most = neighbour_skew(topo, clocks);
         Link {
             most,
             edge: first_place(topo, clocks, most),
@@ -95,7 +95,7 @@ impl Link {
     /// Whether the ends of that edge are as far apart as neighbours may be.
     fn is_at_most(&self, topo: &Topology, clocks: &[u64]) -> bool
         requires { length clocks.now ≡ topo.now.nodes }
-        ensures { IsTrue result → self.now.most ≤ near_skew topo.now.edges clocks.now }
+        ensures { IsTrue result → self.now.most ≤ neighbour_skew topo.now.edges clocks.now }
     {
         if self.edge >= topo.edges().len() {
             return false;
@@ -115,10 +115,10 @@ impl Link {
         kept: u64,
     ) -> u64
         requires count { length clocks.now ≡ topo.now.nodes }
-        requires grown { near_skew topo.now.edges clocks.now ≤ self.old.most + by }
-        requires global { near_skew topo.now.edges clocks.now ≤ global }
-        ensures seen { IsSeenAs kept (near_skew topo.now.edges clocks.now) result }
-        ensures bound { near_skew topo.now.edges clocks.now ≤ self.new.most }
+        requires grown { neighbour_skew topo.now.edges clocks.now ≤ self.old.most + by }
+        requires global { neighbour_skew topo.now.edges clocks.now ≤ global }
+        ensures seen { IsSeenAs kept (neighbour_skew topo.now.edges clocks.now) result }
+        ensures bound { neighbour_skew topo.now.edges clocks.now ≤ self.new.most }
     {
         self.most = self.most.saturating_add(by).min(global);
         if self.most <= kept {

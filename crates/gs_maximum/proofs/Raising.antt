@@ -6,8 +6,8 @@ use Rattle.gs_maximum.specs.Lag.{HearingRaises}
 
 -- a beacon's maximum is raised by no more than its way lets the greatest clock grow
 pub jump_stays_behind : JumpStaysBehind
-jump_stays_behind rate told soonest k reached grown behind low grew =
-    let way : rate.lo * soonest ≤ rate.lo * k = mul-le-mul_left rate.lo low in
+jump_stays_behind rate told delay_min k reached grown behind low grew =
+    let way : rate.lo * delay_min ≤ rate.lo * k = mul-le-mul_left rate.lo low in
     omega (arith, behind, way, grew)
 
 -- what is heard then is the old value or the new one

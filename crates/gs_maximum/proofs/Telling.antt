@@ -7,10 +7,10 @@ use Rattle.gs_maximum.proofs.Creeping.{g-below}
 
 -- on its way a maximum creeps by at most lo in each quantum, and it was raised by lo for each of the least delay
 pub hop_tells : HopTells
-hop_tells rate soonest latest way kept age told heard m low high within raised crept =
+hop_tells rate delay_min delay_max way kept age told heard m low high within raised crept =
     let creep : g_of rate * way ≤ rate.lo * way = mul-le-mul_right way (g-below rate) in
-    let most : rate.lo * way ≤ rate.lo * (soonest + (latest - soonest)) = mul-le-mul_left rate.lo (omega (arith, low, high)) in
-    let span : rate.lo * (soonest + (latest - soonest)) ≡ rate.lo * soonest + rate.lo * (latest - soonest) = mul-add rate.lo soonest (latest - soonest) in
+    let most : rate.lo * way ≤ rate.lo * (delay_min + (delay_max - delay_min)) = mul-le-mul_left rate.lo (omega (arith, low, high)) in
+    let span : rate.lo * (delay_min + (delay_max - delay_min)) ≡ rate.lo * delay_min + rate.lo * (delay_max - delay_min) = mul-add rate.lo delay_min (delay_max - delay_min) in
     let both : g_of rate * (way + kept) ≡ g_of rate * way + g_of rate * kept = mul-add (g_of rate) way kept in
     record { recent = within; crept = omega (arith, creep, most, span, both, raised, crept) }
 

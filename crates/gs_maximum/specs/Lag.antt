@@ -29,10 +29,10 @@ HeardCreeps = (rate : Rate) (m : Max) (now later k : ℕ)
 -- each quantum of the least delay; that has crept for `kept` quanta since. What is lost is at most the spread of the
 -- delays.
 abbrev pub HopTells : Type 0
-HopTells = (rate : Rate) (soonest latest way kept age told heard m : ℕ)
-    → soonest ≤ way → way ≤ latest → way + kept ≤ age
-    → told + rate.lo * soonest ≤ heard → heard + g_of rate * kept ≤ m
-    → Tells rate age (rate.lo * (latest - soonest)) told (way + kept) m
+HopTells = (rate : Rate) (delay_min delay_max way kept age told heard m : ℕ)
+    → delay_min ≤ way → way ≤ delay_max → way + kept ≤ age
+    → told + rate.lo * delay_min ≤ heard → heard + g_of rate * kept ≤ m
+    → Tells rate age (rate.lo * (delay_max - delay_min)) told (way + kept) m
 
 -- hop after hop, ages and slacks add up
 abbrev pub HopsTell : Type 0

@@ -10,10 +10,10 @@ abbrev pub CreepStaysBehind : Type 0
 CreepStaysBehind = (rate : Rate) (m : Max) (now k reached grown : ℕ)
     → m.base ≤ reached → now ≤ m.at + rate.hi * k → rate.lo * k ≤ grown → heard_of rate m now ≤ reached + grown
 
--- a beacon's maximum stays behind, when it is raised for a way of at least `soonest` quanta
+-- a beacon's maximum stays behind, when it is raised for a way of at least `delay_min` quanta
 abbrev pub JumpStaysBehind : Type 0
-JumpStaysBehind = (rate : Rate) (told soonest k reached grown : ℕ)
-    → told ≤ reached → soonest ≤ k → rate.lo * k ≤ grown → told + rate.lo * soonest ≤ reached + grown
+JumpStaysBehind = (rate : Rate) (told delay_min k reached grown : ℕ)
+    → told ≤ reached → delay_min ≤ k → rate.lo * k ≤ grown → told + rate.lo * delay_min ≤ reached + grown
 
 -- so a beacon raises no base above what the greatest clock has reached
 abbrev pub HearingStaysBehind : Type 0

@@ -2,8 +2,7 @@
 use Rattle.std.specs.Prelude.{◌≡◌, ℕ, ◌<◌, ◌≤◌, ◌*◌, ◌/◌, ◌⊎◌, max, List, ◌++◌, Option, Some, None, codes, decimal}
 use Rattle.gs_units.specs.declared.params.NodeParams.{NodeParams}
 use Rattle.gs_net.specs.declared.lending.Ask.{Ask}
-use Rattle.gs_plan.specs.Nodes.{params_in}
-use Rattle.gs_plan.specs.Plans.{graph_of, rate_of, text_of}
+use Rattle.gs_plan.specs.Plans.{graph_of, params_for, text_of}
 use Rattle.gs_plan.specs.declared.plan.Plan.{Plan}
 use Rattle.gs_cli.specs.Answers.{Answer, line, usage}
 use Rattle.gs_cli.specs.declared.status.Status.TheVariants as status
@@ -20,7 +19,7 @@ pub record Names (files : FilesSeen) (words : List (List ℕ)) (order : Order) (
 
 -- what its node is told before it runs
 abbrev pub params_of : Plan → ℕ → NodeParams
-params_of plan v = params_in (text_of plan) (graph_of plan) (rate_of plan) v
+params_of plan v = params_for plan v
 
 -- and what it asks its ports for
 abbrev pub asks_for_node : Plan → ℕ → List Ask

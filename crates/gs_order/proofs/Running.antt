@@ -1,6 +1,6 @@
 -- The events of a play under way.
 use Rattle.std.proofs.Common.{◌≡◌, ℕ, ◌+◌, ◌<◌, ◌≤◌, arith, ap, ◌∙◌, sym, subst, refl, List, [], ◌∷◌, map, All, None, slice_index}
-use Rattle.gs_topo.specs.Walks.{IsGraph}
+use Rattle.gs_topo.specs.Walks.{IsTopology}
 use Rattle.gs_plan.specs.Plans.{graph_of, rate_of, text_of}
 use Rattle.gs_plan.specs.declared.plan.Plan.{Plan}
 use Rattle.gs_plan.proofs.Telling.{plan_is_graph}
@@ -49,7 +49,7 @@ row_of_stage p s x row plan said zeros is =
     ∙ ap (λ (r : Said). (row_at (rows_of_script p r x.l0s) x.quanta).clocks) said
     ∙ ap (λ (l : List ℕ). (row_at (rows_of_script p s l) x.quanta).clocks) zeros
 
-pub known_nodes : (p : Plan) (s : Said) (every t : ℕ) (events : List Timed) → IsGraph (graph_of p) → events ≡ events_by p s every t
+pub known_nodes : (p : Plan) (s : Said) (every t : ℕ) (events : List Timed) → IsTopology (graph_of p) → events ≡ events_by p s every t
     → All (λ e. e.node < (graph_of p).nodes) events
 known_nodes p s every t events graph is =
     let some = graph.some in
@@ -105,7 +105,7 @@ over_of p s x plan said zeros over =
 order_of_steady : (p : Plan) (s : Said) (every : ℕ) → 1 ≤ every
     → AreSteady (net_of p) (rows_of_script p s (zeros_of (net_of p))) s.quanta → AreOrdered (order_of p s every)
 order_of_steady p s every some steady =
-    let graph : IsGraph (graph_of p) = plan_is_graph (text_of p) (graph_of p) p.accepted p.graph in
+    let graph : IsTopology (graph_of p) = plan_is_graph (text_of p) (graph_of p) p.accepted p.graph in
     let one = graph.some in
     let wait = skew_is (text_of p) (graph_of p) (rate_of p) p.rates in
     are_ordered (play_clock p s) (wait_of p) (graph_of p).nodes every s.quanta (order_of p s every) (omega (arith, some)) (omega (arith, one))

@@ -1,14 +1,13 @@
 -- The commit wait.
 use Rattle.std.specs.Prelude.{ℕ, ◌+◌, ◌<◌}
-use Rattle.gs_plan.specs.Bounds.{global_in}
-use Rattle.gs_plan.specs.Plans.{graph_of, text_of}
+use Rattle.gs_plan.specs.Plans.{global_of}
 use Rattle.gs_plan.specs.declared.plan.Plan.{Plan}
 use Rattle.gs_run.specs.Nets.{net_of}
 use Rattle.gs_run.specs.World.{World, clock_in}
 
 -- G(0): how far any two clocks may be apart
 abbrev pub wait_of : Plan → ℕ
-wait_of p = global_in (text_of p) (graph_of p)
+wait_of p = global_of p
 
 -- an event of this stamp can finish at node v, by its clock now
 abbrev pub CanFinish : Plan → World → ℕ → ℕ → Type 0

@@ -8,13 +8,13 @@ use Rattle.gs_topo.specs.Graph.{Graph, adjacent, joins}
 use Rattle.gs_planfile.specs.declared.text.EdgeSpan.{EdgeSpan}
 use Rattle.gs_planfile.specs.declared.text.PlanText.{PlanText}
 use Rattle.gs_planfile.specs.declared.text.Version.{Version}
-use Rattle.gs_plan.specs.declared.edge.EdgeText.{EdgeText}
+use Rattle.gs_plan.specs.declared.edge.EdgeGiven.{EdgeGiven}
 use Rattle.gs_plan.specs.declared.fault.PlanFault.{PlanFault}
 use Rattle.gs_plan.specs.declared.fault.PlanFault.TheVariants as fault
 use Rattle.gs_plan.specs.Accepted.{IsAccepted, IsFine}
 use Rattle.gs_plan.specs.Bounds.{global_in, greatest_kappa_in}
-use Rattle.gs_plan.specs.Edges.{edge_text, own_text, span_between, span_text}
-use Rattle.gs_plan.specs.Faults.{are_bad_delays, are_bad_ports, are_low_kappas, beacon_bound, fault_over, fault_where, is_bad_span, is_low_kappa, is_one, is_outside, is_wide, span_fault}
+use Rattle.gs_plan.specs.Edges.{edge_given, own_given, span_between, span_given}
+use Rattle.gs_plan.specs.Faults.{are_bad_delays, are_bad_ports, are_low_kappas, beacon_bound, fault_if, fault_over, is_bad_span, is_low_kappa, is_one, is_outside, is_wide, span_fault}
 use Rattle.gs_plan.specs.Numbers.{least_kappa_in, q_in, r_in}
 use Rattle.gs_plan.proofs.Keeping.{each_below}
 
@@ -24,7 +24,7 @@ none_of None y h = (refl, h)
 none_of (Some x) y h = cc
 
 -- a test that gives no fault fails
-pub passes : (test : Bool) (f : PlanFault) → fault_where test f ≡ None → test ≡ false
+pub passes : (test : Bool) (f : PlanFault) → fault_if test f ≡ None → test ≡ false
 passes true f h = cc
 passes false f h = refl
 
@@ -66,7 +66,7 @@ not_low None least h = omega arith
 not_low (Some kappa) least h = ltb-false kappa least h
 
 -- delays that are not bad and a kappa that is not low
-fine_of : (t : PlanText) (e : EdgeText) → are_bad_delays e.delay_min e.delay_max ≡ false → is_low_kappa t e ≡ false → IsFine t e
+fine_of : (t : PlanText) (e : EdgeGiven) → are_bad_delays e.delay_min e.delay_max ≡ false → is_low_kappa t e ≡ false → IsFine t e
 fine_of t e delays kappa =
     let parts = neither (nat_lt e.delay_max e.delay_min) (is_outside 1 65536 e.delay_max) delays in
     let range = inside 1 65536 e.delay_max parts.1 in
@@ -78,43 +78,43 @@ fine_of t e delays kappa =
     }
 
 -- what holds of all spans holds of the one that is found
-found_fine : (t : PlanText) (p : EdgeSpan → Bool) (ss : List EdgeSpan) → All (λ s. are_bad_delays s.delay_min s.delay_max ≡ false) ss → All (λ s. is_low_kappa t (span_text s) ≡ false) ss
-    → IsFine t (own_text t) → IsFine t (option_map_or span_text (find p ss) (own_text t))
+found_fine : (t : PlanText) (p : EdgeSpan → Bool) (ss : List EdgeSpan) → All (λ s. are_bad_delays s.delay_min s.delay_max ≡ false) ss → All (λ s. is_low_kappa t (span_given s) ≡ false) ss
+    → IsFine t (own_given t) → IsFine t (option_map_or span_given (find p ss) (own_given t))
 found_fine t p [] delays kappas own = own
 found_fine t p (s ∷ ss) delays kappas own =
-    let rest = found_fine t p ss (All-tail (λ s. are_bad_delays s.delay_min s.delay_max ≡ false) s ss delays) (All-tail (λ s. is_low_kappa t (span_text s) ≡ false) s ss kappas) own in
-    let here = fine_of t (span_text s) (All-head (λ s. are_bad_delays s.delay_min s.delay_max ≡ false) s ss delays) (All-head (λ s. is_low_kappa t (span_text s) ≡ false) s ss kappas) in
+    let rest = found_fine t p ss (All-tail (λ s. are_bad_delays s.delay_min s.delay_max ≡ false) s ss delays) (All-tail (λ s. is_low_kappa t (span_given s) ≡ false) s ss kappas) own in
+    let here = fine_of t (span_given s) (All-head (λ s. are_bad_delays s.delay_min s.delay_max ≡ false) s ss delays) (All-head (λ s. is_low_kappa t (span_given s) ≡ false) s ss kappas) in
     pick (p s) here rest where
-      pick : (b : Bool) → IsFine t (span_text s) → IsFine t (option_map_or span_text (find p ss) (own_text t)) → IsFine t (option_map_or span_text (cond b (Some s) (find p ss)) (own_text t))
+      pick : (b : Bool) → IsFine t (span_given s) → IsFine t (option_map_or span_given (find p ss) (own_given t)) → IsFine t (option_map_or span_given (cond b (Some s) (find p ss)) (own_given t))
       pick true here rest = here
       pick false here rest = rest
 
 -- all edges are fine where the plan and all spans are
-edges_fine : (t : PlanText) (es : List (ℕ × ℕ)) → ((e : ℕ × ℕ) → IsFine t (edge_text t e)) → All (IsFine t) (map (edge_text t) es)
-edges_fine t es fine = All-map (IsFine t) (edge_text t) es (λ k d h. fine (slice_index_or es k d))
+edges_fine : (t : PlanText) (es : List (ℕ × ℕ)) → ((e : ℕ × ℕ) → IsFine t (edge_given t e)) → All (IsFine t) (map (edge_given t) es)
+edges_fine t es fine = All-map (IsFine t) (edge_given t) es (λ k d h. fine (slice_index_or es k d))
 
 -- a text without a fault over a graph is accepted
 pub accepted_of : (t : PlanText) (g : Graph) → fault_over t g ≡ None → IsAccepted t g
 accepted_of t g none =
-    let tick = none_of (fault_where (is_outside 1 65536 t.tick) fault.Tick) _ none in
-    let delay = none_of (fault_where (are_bad_delays t.delay_min t.delay_max) fault.Delay) _ tick.1 in
+    let tick = none_of (fault_if (is_outside 1 65536 t.tick) fault.Tick) _ none in
+    let delay = none_of (fault_if (are_bad_delays t.delay_min t.delay_max) fault.Delay) _ tick.1 in
     let span = none_of (span_fault t.version g 0 [] t.spans) _ delay.1 in
-    let every = none_of (fault_where (is_outside 1 1024 t.every) fault.Every) _ span.1 in
-    let losses = none_of (fault_where (nat_lt 1024 t.losses) fault.Losses) _ every.1 in
-    let age = none_of (fault_where (nat_lt t.age (beacon_bound t g)) fault.Age) _ losses.1 in
-    let levels = none_of (fault_where (is_outside 1 32 t.levels) fault.Levels) _ age.1 in
-    let port = none_of (fault_where (are_bad_ports t g) fault.Port) _ levels.1 in
-    let weak = none_of (fault_where (nat_lt (q_in t) (2 * r_in t)) fault.Weak) _ port.1 in
-    let kappa = none_of (fault_where (are_low_kappas t) fault.Kappa) _ weak.1 in
-    let wide = none_of (fault_where (is_wide t g) fault.Wide) _ kappa.1 in
+    let every = none_of (fault_if (is_outside 1 1024 t.every) fault.Every) _ span.1 in
+    let losses = none_of (fault_if (nat_lt 1024 t.losses) fault.Losses) _ every.1 in
+    let age = none_of (fault_if (nat_lt t.age (beacon_bound t g)) fault.Age) _ losses.1 in
+    let levels = none_of (fault_if (is_outside 1 32 t.levels) fault.Levels) _ age.1 in
+    let port = none_of (fault_if (are_bad_ports t g) fault.Port) _ levels.1 in
+    let weak = none_of (fault_if (nat_lt (q_in t) (2 * r_in t)) fault.Weak) _ port.1 in
+    let kappa = none_of (fault_if (are_low_kappas t) fault.Kappa) _ weak.1 in
+    let wide = none_of (fault_if (is_wide t g) fault.Wide) _ kappa.1 in
     let ticks = inside 1 65536 t.tick (passes (is_outside 1 65536 t.tick) fault.Tick tick.0) in
     let turns = inside 1 1024 t.every (passes (is_outside 1 1024 t.every) fault.Every every.0) in
     let ports = neither (nat_lt t.port 1024) (nat_lt 65536 (t.port + 2 * length g.edges + g.nodes)) (passes (are_bad_ports t g) fault.Port port.0) in
     let level = inside 1 32 t.levels (passes (is_outside 1 32 t.levels) fault.Levels levels.0) in
-    let lows = neither (is_low_kappa t (own_text t)) (list_any (λ s. is_low_kappa t (span_text s)) t.spans) (passes (are_low_kappas t) fault.Kappa kappa.0) in
-    let own = fine_of t (own_text t) (passes (are_bad_delays t.delay_min t.delay_max) fault.Delay delay.0) lows.0 in
+    let lows = neither (is_low_kappa t (own_given t)) (list_any (λ s. is_low_kappa t (span_given s)) t.spans) (passes (are_low_kappas t) fault.Kappa kappa.0) in
+    let own = fine_of t (own_given t) (passes (are_bad_delays t.delay_min t.delay_max) fault.Delay delay.0) lows.0 in
     let delays = good_delays t.version g 0 [] t.spans span.0 in
-    let kappas = none_passes (λ s. is_low_kappa t (span_text s)) t.spans lows.1 in
+    let kappas = none_passes (λ s. is_low_kappa t (span_given s)) t.spans lows.1 in
     record {
       tick = ticks.0;
       tick_most = ticks.1;

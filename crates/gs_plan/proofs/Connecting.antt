@@ -5,7 +5,7 @@ use Rattle.std.proofs.lemmas.Bool.{cases_lt, eqb-false, ltb-false}
 use Rattle.gs_topo.specs.declared.fault.TopoFault.TheVariants.{Count, Edges, Split}
 use Rattle.gs_topo.specs.Faults.{edges_fault, fault_of, split_fault}
 use Rattle.gs_topo.specs.Graph.{Graph, Adjacent, graph_of}
-use Rattle.gs_topo.specs.Walks.{IsGraph, IsWalk, has_walk, least_from, one_each, reaches}
+use Rattle.gs_topo.specs.Walks.{IsTopology, IsWalk, has_walk, least_from, one_each, reaches}
 use Rattle.gs_topo.proofs.Distances.{IsConnected, both_ways, walk-from_has_walk}
 use Rattle.gs_topo.proofs.Sound.{is_graph}
 use Rattle.gs_topo.proofs.Walks.{turned, walk_append}
@@ -62,17 +62,17 @@ together g some none v w hv hw =
     (back.0 ++ on.0, walk_append (Adjacent g) g.nodes v 0 w back.0 on.0 back.1 on.1)
 
 -- a list of edges without a fault makes a graph
-pub no_fault_is_graph : (n : ℕ) (given : List (ℕ × ℕ)) → fault_of n given ≡ None → IsGraph (graph_of n given)
+pub no_fault_is_graph : (n : ℕ) (given : List (ℕ × ℕ)) → fault_of n given ≡ None → IsTopology (graph_of n given)
 no_fault_is_graph n given none = counts ((n == 0) || nat_lt 512 n) refl none where
   edges : (b : Bool) → nat_lt 4096 (length given) ≡ b → 1 ≤ n → n ≤ 512
-      → cond b (Some Edges) (option_or (edges_fault n [] 0 given) (split_fault (graph_of n given))) ≡ None → IsGraph (graph_of n given)
+      → cond b (Some Edges) (option_or (edges_fault n [] 0 given) (split_fault (graph_of n given))) ≡ None → IsTopology (graph_of n given)
   edges true is some few h = absurd (cc)
   edges false is some few h =
       let parts = none_of (edges_fault n [] 0 given) (split_fault (graph_of n given)) h in
       is_graph n given some few (ltb-false 4096 (length given) is) (together (graph_of n given) some parts.1)
 
   counts : (b : Bool) → ((n == 0) || nat_lt 512 n) ≡ b
-      → cond b (Some Count) (if nat_lt 4096 (length given) then Some Edges else option_or (edges_fault n [] 0 given) (split_fault (graph_of n given))) ≡ None → IsGraph (graph_of n given)
+      → cond b (Some Count) (if nat_lt 4096 (length given) then Some Edges else option_or (edges_fault n [] 0 given) (split_fault (graph_of n given))) ≡ None → IsTopology (graph_of n given)
   counts true is h = absurd (cc)
   counts false is h =
       let parts = neither (n == 0) (nat_lt 512 n) is in

@@ -7,24 +7,24 @@ use Rattle.std.proofs.lemmas.List.{get_or-map, length-map}
 use Rattle.gs_topo.specs.Graph.{Graph}
 use Rattle.gs_topo.proofs.Tables.{le_greatest}
 use Rattle.gs_planfile.specs.declared.text.PlanText.{PlanText}
-use Rattle.gs_plan.specs.declared.edge.EdgeText.{EdgeText}
+use Rattle.gs_plan.specs.declared.edge.EdgeGiven.{EdgeGiven}
 use Rattle.gs_plan.specs.Accepted.{IsAccepted}
 use Rattle.gs_plan.specs.Bounds.{greatest_in, greatest_kappa_in}
-use Rattle.gs_plan.specs.Edges.{edge_texts, own_text}
+use Rattle.gs_plan.specs.Edges.{edges_given, own_given}
 use Rattle.gs_plan.specs.inside.Kept.{AreWords}
 use Rattle.gs_plan.specs.Levels.{best_of, IsBest}
 use Rattle.gs_plan.specs.Numbers.{kappa_in}
 
 -- the plan's own number is at most the greatest
-pub own_below : (f : EdgeText → ℕ) (t : PlanText) (g : Graph) → f (own_text t) ≤ greatest_in f t g
-own_below f t g = (le_greatest (map f (edge_texts t g)) (f (own_text t)) 0).0
+pub own_below : (f : EdgeGiven → ℕ) (t : PlanText) (g : Graph) → f (own_given t) ≤ greatest_in f t g
+own_below f t g = (le_greatest (map f (edges_given t g)) (f (own_given t)) 0).0
 
 -- and so is the number of each edge
-pub each_below : (f : EdgeText → ℕ) (t : PlanText) (g : Graph) (k : ℕ) (d : EdgeText) → k < length (edge_texts t g) → f (get_or (edge_texts t g) k d) ≤ greatest_in f t g
+pub each_below : (f : EdgeGiven → ℕ) (t : PlanText) (g : Graph) (k : ℕ) (d : EdgeGiven) → k < length (edges_given t g) → f (get_or (edges_given t g) k d) ≤ greatest_in f t g
 each_below f t g k d h =
-    let inside : k < length (map f (edge_texts t g)) = rw (length-map (edge_texts t g) f) h in
-    let below = (le_greatest (map f (edge_texts t g)) (f (own_text t)) k).1 inside in
-    let is : slice_index (map f (edge_texts t g)) k ≡ f (get_or (edge_texts t g) k d) = get_or-map f (edge_texts t g) k d 0 h in
+    let inside : k < length (map f (edges_given t g)) = rw (length-map (edges_given t g) f) h in
+    let below = (le_greatest (map f (edges_given t g)) (f (own_given t)) k).1 inside in
+    let is : slice_index (map f (edges_given t g)) k ≡ f (get_or (edges_given t g) k d) = get_or-map f (edges_given t g) k d 0 h in
     rw is at below
 
 -- the greatest kappa of an accepted plan
@@ -35,14 +35,14 @@ kappa_fits t g is =
     (omega (arith, fits), omega (arith, fits, once))
 
 -- the numbers of the plan's own edges are words
-pub own_words : (t : PlanText) (g : Graph) → IsAccepted t g → AreWords t (own_text t)
+pub own_words : (t : PlanText) (g : Graph) → IsAccepted t g → AreWords t (own_given t)
 own_words t g is = record {
   low = is.own.margin;
   high = (let below = own_below (kappa_in t) t g in let fits = kappa_fits t g is in omega (arith, below, fits));
 }
 
 -- and so are those of all edges
-pub all_words : (t : PlanText) (g : Graph) → IsAccepted t g → All (AreWords t) (edge_texts t g)
+pub all_words : (t : PlanText) (g : Graph) → IsAccepted t g → All (AreWords t) (edges_given t g)
 all_words t g is = λ k d h. record {
   low = (is.edges k d h).margin;
   high = (let below = each_below (kappa_in t) t g k d h in let fits = kappa_fits t g is in omega (arith, below, fits));

@@ -8,12 +8,12 @@ use Rattle.std.proofs.lemmas.List.Sums.{sum_by-set}
 use Rattle.std.proofs.lemmas.Simd.{map-map}
 use Rattle.std.proofs.lemmas.List.Quantifiers.{position-Some}
 use Rattle.gs_topo.specs.Graph.{Graph, IsBefore, adjacent, joins, number_of}
-use Rattle.gs_topo.specs.Walks.{IsGraph}
+use Rattle.gs_topo.specs.Walks.{IsTopology}
 use Rattle.gs_topo.proofs.Ascending.{joins-cases}
 use Rattle.gs_planfile.specs.declared.text.EdgeSpan.{EdgeSpan}
 use Rattle.gs_planfile.specs.declared.text.PlanText.{PlanText}
 use Rattle.gs_planfile.specs.declared.text.Version.{Version}
-use Rattle.gs_plan.specs.Edges.{edge_texts, own_text, span_between, span_text}
+use Rattle.gs_plan.specs.Edges.{edges_given, own_given, span_between, span_given}
 use Rattle.gs_plan.specs.Faults.{are_bad_delays, is_bad_span, is_one}
 use Rattle.gs_plan.specs.inside.Kept.{edge_spans}
 use Rattle.gs_plan.proofs.Chain.{place_found}
@@ -66,7 +66,7 @@ one_set (e ∷ es) earlier s (suc k) d h free here others =
     rw (head, rest) refl
 
 -- no other edge of a graph joins the same nodes
-apart : (g : Graph) (v w k j : ℕ) (d : ℕ × ℕ) → IsGraph g → k < length g.edges → joins (get_or g.edges k d) v w ≡ true → j < length g.edges → j ≢ k → joins (get_or g.edges j d) v w ≡ false
+apart : (g : Graph) (v w k j : ℕ) (d : ℕ × ℕ) → IsTopology g → k < length g.edges → joins (get_or g.edges k d) v w ≡ true → j < length g.edges → j ≢ k → joins (get_or g.edges j d) v w ≡ false
 apart g v w k j d is hk here hj other = pick (joins (get_or g.edges j d) v w) refl where
   same : (a b : ℕ × ℕ) → a.0 < a.1 → b.0 < b.1 → joins a v w ≡ true → joins b v w ≡ true → (a.0 ≡ b.0) × (a.1 ≡ b.1)
   same a b ha hb ja jb = elim (joins-cases a v w ja) [
@@ -104,7 +104,7 @@ at_number g earlier v w e d found =
     (at.0, get_or-map (λ e. span_between earlier e.0 e.1) g.edges e (0, 0) d at.0 ∙ joined_span earlier (get_or g.edges e (0, 0)) v w at.1)
 
 -- one span more
-pub table_more : (g : Graph) (earlier : List EdgeSpan) (s : EdgeSpan) (e : ℕ) (d : Option EdgeSpan) → IsGraph g → number_of g s.a s.b ≡ Some e → get_or (edge_spans earlier g) e d ≡ None
+pub table_more : (g : Graph) (earlier : List EdgeSpan) (s : EdgeSpan) (e : ℕ) (d : Option EdgeSpan) → IsTopology g → number_of g s.a s.b ≡ Some e → get_or (edge_spans earlier g) e d ≡ None
     → set (edge_spans earlier g) e (Some s) ≡ edge_spans (earlier ++ s ∷ []) g
 table_more g earlier s e d is found free =
     let at = position-Some (λ x. joins x s.a s.b) g.edges e (0, 0) found in
@@ -112,7 +112,7 @@ table_more g earlier s e d is found free =
     one_set g.edges earlier s e (0, 0) at.0 none at.1 (λ j h other. apart g s.a s.b e j (0, 0) is at.0 at.1 h other)
 
 -- the same where the spans before it are the first of a list, and one edge more has a span
-pub table_next : (g : Graph) (spans : List EdgeSpan) (i e : ℕ) (found : List (Option EdgeSpan)) (d : EdgeSpan) → IsGraph g → i < length spans → found ≡ edge_spans (take i spans) g
+pub table_next : (g : Graph) (spans : List EdgeSpan) (i e : ℕ) (found : List (Option EdgeSpan)) (d : EdgeSpan) → IsTopology g → i < length spans → found ≡ edge_spans (take i spans) g
     → number_of g (get_or spans i d).a (get_or spans i d).b ≡ Some e → get_or found e None ≡ None
     → (set found e (Some (get_or spans i d)) ≡ edge_spans (take (i + 1) spans) g) × (count_by is_some (set found e (Some (get_or spans i d))) ≡ count_by is_some found + 1)
 table_next g spans i e found d is h table named free =
@@ -137,5 +137,5 @@ bad_at version g earlier s e found d table named =
     rw (near, table, (at_number g earlier s.a s.b e d named).1) refl
 
 -- what a plan says of its edges, by their spans
-pub texts_by_span : (t : PlanText) (g : Graph) → map (λ o. option_map_or span_text o (own_text t)) (edge_spans t.spans g) ≡ edge_texts t g
-texts_by_span t g = map-map (λ o. option_map_or span_text o (own_text t)) (λ e. span_between t.spans e.0 e.1) g.edges
+pub texts_by_span : (t : PlanText) (g : Graph) → map (λ o. option_map_or span_given o (own_given t)) (edge_spans t.spans g) ≡ edges_given t g
+texts_by_span t g = map-map (λ o. option_map_or span_given o (own_given t)) (λ e. span_between t.spans e.0 e.1) g.edges

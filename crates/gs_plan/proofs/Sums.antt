@@ -5,7 +5,7 @@ use Rattle.std.proofs.Math.Nat.{mul-le-mul_left}
 use Rattle.std.proofs.lemmas.Bool.{and_from, and_parts, cases_lt, eq-eqb, eqb-true, le-leb, leb-true, or_cases, or_left, or_right}
 use Rattle.std.proofs.lemmas.List.Elements.{All-contains}
 use Rattle.gs_topo.specs.Graph.{Graph, adjacent, Adjacent}
-use Rattle.gs_topo.specs.Walks.{IsGraph, IsLeast, IsWalk, diameter_of, distance_of, least_from, length_of, one_each}
+use Rattle.gs_topo.specs.Walks.{IsTopology, IsLeast, IsWalk, diameter_of, distance_of, least_from, length_of, one_each}
 use Rattle.gs_topo.proofs.Distances.{is_least, least_exists, least_from_is}
 use Rattle.gs_topo.proofs.Members.{Contains-range, list_any-from_member, member-from_list_any, range_below}
 use Rattle.gs_topo.proofs.Tables.{at_most_diameter}
@@ -13,7 +13,7 @@ use Rattle.gs_topo.proofs.Walks.{sum_is_small}
 use Rattle.gs_planfile.specs.declared.text.PlanText.{PlanText}
 use Rattle.gs_plan.specs.Accepted.{IsAccepted}
 use Rattle.gs_plan.specs.Bounds.{greatest_kappa_in}
-use Rattle.gs_plan.specs.Edges.{edge_texts, own_text}
+use Rattle.gs_plan.specs.Edges.{edges_given, own_given}
 use Rattle.gs_plan.specs.Numbers.{kappa_between, kappa_in}
 use Rattle.gs_plan.proofs.Keeping.{each_below}
 use Rattle.gs_plan.proofs.Linking.{has_number, text_at}
@@ -61,7 +61,7 @@ walk-from_has_sum adj n k (suc steps) v w d has = elim (or_cases _ _ has) [
 ]
 
 -- The least sum that some walk has is the least of all, and at most the greatest kappa for each step of the distance.
-pub weight_is_least : (t : PlanText) (g : Graph) → IsGraph g → ((v w : ℕ) → Adjacent g v w → 1 ≤ kappa_between t v w) → ((v w : ℕ) → Adjacent g v w → kappa_between t v w ≤ greatest_kappa_in t g)
+pub weight_is_least : (t : PlanText) (g : Graph) → IsTopology g → ((v w : ℕ) → Adjacent g v w → 1 ≤ kappa_between t v w) → ((v w : ℕ) → Adjacent g v w → kappa_between t v w ≤ greatest_kappa_in t g)
     → (v w : ℕ) → v < g.nodes → w < g.nodes
     → IsLeast (Adjacent g) g.nodes (kappa_between t) v w (weight_in t g v w) × (weight_in t g v w ≤ greatest_kappa_in t g * distance_of g v w)
 unfolding weight_in
@@ -97,10 +97,10 @@ weight_is_least t g is positive most v w hv hw =
 pub kappa_of_neighbours : (t : PlanText) (g : Graph) → IsAccepted t g → (v w : ℕ) → Adjacent g v w → (1 ≤ kappa_between t v w) × (kappa_between t v w ≤ greatest_kappa_in t g)
 kappa_of_neighbours t g is v w next =
     let found = has_number g v w next in
-    let at = text_at t g v w found.0 (own_text t) found.1 in
-    let same : kappa_in t (get_or (edge_texts t g) found.0 (own_text t)) ≡ kappa_between t v w = ap (kappa_in t) at.1 in
-    let margin = (is.edges found.0 (own_text t) at.0).margin in
-    let below = each_below (kappa_in t) t g found.0 (own_text t) at.0 in
+    let at = text_at t g v w found.0 (own_given t) found.1 in
+    let same : kappa_in t (get_or (edges_given t g) found.0 (own_given t)) ≡ kappa_between t v w = ap (kappa_in t) at.1 in
+    let margin = (is.edges found.0 (own_given t) at.0).margin in
+    let below = each_below (kappa_in t) t g found.0 (own_given t) at.0 in
     (omega (arith, margin, same), omega (arith, below, same))
 
 -- a least sum is the only one

@@ -17,15 +17,15 @@ use Rattle.gs_units.specs.declared.params.Link.{Link}
 use Rattle.gs_units.specs.declared.rate.Rate.{Rate}
 use Rattle.gs_topo.specs.Faults.{fault_of}
 use Rattle.gs_topo.specs.Graph.{Graph, Adjacent, adjacent, graph_of, joined, joins, neighbours_of, pairs_below}
-use Rattle.gs_topo.specs.Walks.{IsGraph}
+use Rattle.gs_topo.specs.Walks.{IsTopology}
 use Rattle.gs_topo.proofs.Ascending.{joins-cases, pairs_within}
 use Rattle.gs_topo.proofs.Members.{member-from_list_any}
 use Rattle.gs_topo.proofs.Nearer.{neighbour_inside}
 use Rattle.gs_planfile.specs.declared.text.PlanText.{PlanText}
-use Rattle.gs_plan.specs.declared.edge.EdgeText.{EdgeText}
+use Rattle.gs_plan.specs.declared.edge.EdgeGiven.{EdgeGiven}
 use Rattle.gs_plan.specs.declared.fault.PlanFault.TheVariants as fault
 use Rattle.gs_plan.specs.Accepted.{IsAccepted, IsFine}
-use Rattle.gs_plan.specs.Edges.{edge_text, edge_texts, own_text}
+use Rattle.gs_plan.specs.Edges.{edge_given, edges_given, own_given}
 use Rattle.gs_plan.specs.Faults.{fault_over, plan_fault}
 use Rattle.gs_plan.specs.inside.Kept.{AreWords}
 use Rattle.gs_plan.specs.Nodes.{link_in, link_over}
@@ -53,12 +53,12 @@ pub plan_accepted : (t : PlanText) (g : Graph) → IsTrue (is_none (plan_fault t
 plan_accepted t g h is = subst (λ x. IsAccepted t x) (sym is) (text_accepted t h)
 
 -- and its graph is that of a topology
-pub plan_is_graph : (t : PlanText) (g : Graph) → IsTrue (is_none (plan_fault t)) → g ≡ graph_of_text t → IsGraph g
+pub plan_is_graph : (t : PlanText) (g : Graph) → IsTrue (is_none (plan_fault t)) → g ≡ graph_of_text t → IsTopology g
 unfolding plan_fault
 plan_is_graph t g h is =
     let rate = none_of (option_map fault.Rate (rate_fault t.lo t.hi t.mu)) _ (is_none_of _ h) in
     let topo = none_of (option_map fault.Topo (fault_of (shape_nodes t.shape) (shape_edges t.shape))) _ rate.1 in
-    subst (λ x. IsGraph x) (sym is) (no_fault_is_graph (shape_nodes t.shape) (shape_edges t.shape) (no_map fault.Topo (fault_of (shape_nodes t.shape) (shape_edges t.shape)) topo.0))
+    subst (λ x. IsTopology x) (sym is) (no_fault_is_graph (shape_nodes t.shape) (shape_edges t.shape) (no_map fault.Topo (fault_of (shape_nodes t.shape) (shape_edges t.shape)) topo.0))
 
 -- the boost of at most a tenth
 boosted_tenth : (mu h : ℕ) → mu ≤ 100000 → 10 * boosted mu h ≤ h
@@ -68,7 +68,7 @@ boosted_tenth mu h few =
     omega (arith, part, most)
 
 -- the numbers of an edge that is fine make a sound link
-sound_over : (t : PlanText) (e : EdgeText) (x : ℕ) → t.lo ≤ 2 ^ 30 → IsFine t e → AreWords t e → IsSound (link_over t e x)
+sound_over : (t : PlanText) (e : EdgeGiven) (x : ℕ) → t.lo ≤ 2 ^ 30 → IsFine t e → AreWords t e → IsSound (link_over t e x)
 sound_over t e x low fine words =
     let whole : e.delay_min + (e.delay_max - e.delay_min) ≡ e.delay_max = (let h = fine.delays in omega (arith, h)) in
     let parts : t.lo * e.delay_max ≡ t.lo * e.delay_min + t.lo * (e.delay_max - e.delay_min) = rw (← mul-add t.lo e.delay_min (e.delay_max - e.delay_min), whole) refl in
@@ -84,10 +84,10 @@ sound_over t e x low fine words =
 sound_link : (t : PlanText) (g : Graph) (v x : ℕ) → t.lo ≤ 2 ^ 30 → IsAccepted t g → Adjacent g v x → IsSound (link_in t v x)
 sound_link t g v x low is next =
     let found = has_number g v x next in
-    let at = text_at t g v x found.0 (own_text t) found.1 in
-    let inside : found.0 < length (edge_texts t g) = at.0 in
-    let here : get_or (edge_texts t g) found.0 (own_text t) ≡ edge_text t (v, x) = at.1 in
-    let sound = sound_over t (get_or (edge_texts t g) found.0 (own_text t)) x low (is.edges found.0 (own_text t) inside) (all_words t g is found.0 (own_text t) inside) in
+    let at = text_at t g v x found.0 (own_given t) found.1 in
+    let inside : found.0 < length (edges_given t g) = at.0 in
+    let here : get_or (edges_given t g) found.0 (own_given t) ≡ edge_given t (v, x) = at.1 in
+    let sound = sound_over t (get_or (edges_given t g) found.0 (own_given t)) x low (is.edges found.0 (own_given t) inside) (all_words t g is found.0 (own_given t) inside) in
     subst (λ e. IsSound (link_over t e x)) here sound
 
 -- no node of a plan's graph is its own neighbour
@@ -138,7 +138,7 @@ linked t v (x ∷ xs) = ap (λ ys. x ∷ ys) (linked t v xs)
 
 -- what a node is told is valid
 pub params_are_valid : (t : PlanText) (g : Graph) (rate : Rate) (v : ℕ) (links : List Link) (lead : ℕ) → IsAccepted t g → HasNumbers t.lo t.hi t.mu rate → g ≡ graph_of_text t
-    → links ≡ map (link_in t v) (neighbours_of g v) → lead ≡ iota_in t → IsGraph g → v < g.nodes → t.cluster < 2 ^ 32 → t.every < 2 ^ 32
+    → links ≡ map (link_in t v) (neighbours_of g v) → lead ≡ iota_in t → IsTopology g → v < g.nodes → t.cluster < 2 ^ 32 → t.every < 2 ^ 32
     → AreValid (record { cluster = t.cluster; node = v; links = links; rate = rate; iota = lead; every = t.every })
 params_are_valid t g rate v links lead is numbers graph are lead_is shape inside cluster every =
     let rates = rate.accepted in

@@ -2,7 +2,7 @@
 use Rattle.std.proofs.Common.{◌≡◌, ℕ, ◌*◌, ◌<◌, ◌≤◌, ◌^◌, ap, arith}
 use Rattle.std.proofs.Math.Nat.{mul-le-mul_left}
 use Rattle.gs_topo.specs.Graph.{Adjacent, adjacent}
-use Rattle.gs_topo.specs.Walks.{IsGraph, IsLeast, distance_of}
+use Rattle.gs_topo.specs.Walks.{IsTopology, IsLeast, distance_of}
 use Rattle.gs_topo.specs.Weights.{Weighs}
 use Rattle.gs_topo.proofs.Distances.{both_ways, is_below}
 use Rattle.gs_topo.proofs.Weighing.{least_sums_weigh}
@@ -43,7 +43,7 @@ weight_fits p v w hv hw =
     omega (arith, most, kappa, some)
 
 -- the graph of a plan is that of a topology
-pub graph_is : (p : Plan) → IsGraph (graph_of p)
+pub graph_is : (p : Plan) → IsTopology (graph_of p)
 graph_is p = plan_is_graph p.text p.topo p.accepted p.graph
 
 -- the weights of a plan fit its kappas

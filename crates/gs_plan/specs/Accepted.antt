@@ -2,14 +2,14 @@
 use Rattle.std.specs.Prelude.{◌≡◌, ◌+◌, ◌*◌, ◌<◌, ◌≤◌, ◌^◌, All, length, None}
 use Rattle.gs_topo.specs.Graph.{Graph}
 use Rattle.gs_planfile.specs.declared.text.PlanText.{PlanText}
-use Rattle.gs_plan.specs.declared.edge.EdgeText.{EdgeText}
-use Rattle.gs_plan.specs.Edges.{edge_texts, own_text}
+use Rattle.gs_plan.specs.declared.edge.EdgeGiven.{EdgeGiven}
+use Rattle.gs_plan.specs.Edges.{edges_given, own_given}
 use Rattle.gs_plan.specs.Numbers.{kappa_in, least_kappa_in, q_in, r_in}
 use Rattle.gs_plan.specs.Bounds.{global_in, greatest_kappa_in}
 use Rattle.gs_plan.specs.Faults.{beacon_bound, fault_over}
 
 -- the delays of an edge are in order and in range, and its kappa is not too low for them
-pub record IsFine (t : PlanText) (e : EdgeText) : Type 0 where
+pub record IsFine (t : PlanText) (e : EdgeGiven) : Type 0 where
   pub delays : e.delay_min ≤ e.delay_max
   pub some : 1 ≤ e.delay_max
   pub near : e.delay_max ≤ 65536
@@ -28,9 +28,9 @@ pub record IsAccepted (t : PlanText) (g : Graph) : Type 0 where
   pub first_port : 1024 ≤ t.port
   pub ports : t.port + 2 * length g.edges + g.nodes ≤ 65536
   pub strong : 2 * r_in t ≤ q_in t
-  pub own : IsFine t (own_text t)
-  pub edges : All (IsFine t) (edge_texts t g)
-  pub in_age : All (λ e. e.delay_max ≤ t.age) (edge_texts t g)
+  pub own : IsFine t (own_given t)
+  pub edges : All (IsFine t) (edges_given t g)
+  pub in_age : All (λ e. e.delay_max ≤ t.age) (edges_given t g)
   pub fits : 2 * t.levels * greatest_kappa_in t g + global_in t g < 2 ^ 62
 
 -- of every text and graph

@@ -3,15 +3,15 @@ use Rattle.std.specs.Prelude.{ℕ, ◌+◌, ◌-◌, ◌*◌, max, fold, map}
 use Rattle.gs_topo.specs.Graph.{Graph}
 use Rattle.gs_topo.specs.Walks.{diameter_of}
 use Rattle.gs_planfile.specs.declared.text.PlanText.{PlanText}
-use Rattle.gs_plan.specs.declared.edge.EdgeText.{EdgeText}
-use Rattle.gs_plan.specs.Edges.{own_text, edge_texts}
+use Rattle.gs_plan.specs.declared.edge.EdgeGiven.{EdgeGiven}
+use Rattle.gs_plan.specs.Edges.{own_given, edges_given}
 use Rattle.gs_plan.specs.Levels.{best_of}
 use Rattle.gs_units.specs.Rates.{bound_at}
 use Rattle.gs_plan.specs.Numbers.{g_in, iota_in, kappa_in, r_in, sigma_in, spread_in}
 
 -- the greatest of the plan's own value and those of all edges
-abbrev pub greatest_in : (EdgeText → ℕ) → PlanText → Graph → ℕ
-greatest_in f t g = fold max (f (own_text t)) (map f (edge_texts t g))
+abbrev pub greatest_in : (EdgeGiven → ℕ) → PlanText → Graph → ℕ
+greatest_in f t g = fold max (f (own_given t)) (map f (edges_given t g))
 
 -- jmax, kmax and Umax
 abbrev pub greatest_spread_in : PlanText → Graph → ℕ

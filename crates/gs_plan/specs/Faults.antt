@@ -9,17 +9,17 @@ use Rattle.gs_planfile.specs.declared.text.EdgeSpan.{EdgeSpan}
 use Rattle.gs_planfile.specs.declared.text.PlanText.{PlanText}
 use Rattle.gs_planfile.specs.declared.text.Version.{Version}
 use Rattle.gs_planfile.specs.declared.text.Version.TheVariants.{One, Two}
-use Rattle.gs_plan.specs.declared.edge.EdgeText.{EdgeText}
+use Rattle.gs_plan.specs.declared.edge.EdgeGiven.{EdgeGiven}
 use Rattle.gs_plan.specs.declared.fault.PlanFault.{PlanFault}
 use Rattle.gs_plan.specs.declared.fault.PlanFault.TheVariants as fault
 use Rattle.gs_plan.specs.Shapes.{shape_nodes, shape_edges, graph_of_text}
-use Rattle.gs_plan.specs.Edges.{own_text, span_between, span_text}
+use Rattle.gs_plan.specs.Edges.{own_given, span_between, span_given}
 use Rattle.gs_plan.specs.Numbers.{least_kappa_in, q_in, r_in}
 use Rattle.gs_plan.specs.Bounds.{greatest_delay_in, global_in, greatest_kappa_in}
 
--- the fault where the test holds
-abbrev pub fault_where : Bool → PlanFault → Option PlanFault
-fault_where test f = if test then Some f else None
+-- a fault where its test holds
+abbrev pub fault_if : Bool → PlanFault → Option PlanFault
+fault_if test f = if test then Some f else None
 
 -- the first of some faults
 abbrev pub first_some : List (Option PlanFault) → Option PlanFault
@@ -60,11 +60,11 @@ abbrev pub are_bad_ports : PlanText → Graph → Bool
 are_bad_ports t g = nat_lt t.port 1024 || nat_lt 65536 (t.port + 2 * length g.edges + g.nodes)
 
 -- a given kappa is too low for the delays beside it
-abbrev pub is_low_kappa : PlanText → EdgeText → Bool
+abbrev pub is_low_kappa : PlanText → EdgeGiven → Bool
 is_low_kappa t e = option_map_or (λ kappa. nat_lt kappa (least_kappa_in t e)) e.kappa false
 
 abbrev pub are_low_kappas : PlanText → Bool
-are_low_kappas t = is_low_kappa t (own_text t) || list_any (λ s. is_low_kappa t (span_text s)) t.spans
+are_low_kappas t = is_low_kappa t (own_given t) || list_any (λ s. is_low_kappa t (span_given s)) t.spans
 
 -- the greatest bound reaches the end of clocks
 abbrev pub is_wide : PlanText → Graph → Bool
@@ -73,17 +73,17 @@ is_wide t g = nat_le (2 ^ 62) (2 * t.levels * greatest_kappa_in t g + global_in 
 -- the first fault over a graph
 abbrev pub fault_over : PlanText → Graph → Option PlanFault
 fault_over t g = first_some (
-    fault_where (is_outside 1 65536 t.tick) fault.Tick
-    ∷ fault_where (are_bad_delays t.delay_min t.delay_max) fault.Delay
+    fault_if (is_outside 1 65536 t.tick) fault.Tick
+    ∷ fault_if (are_bad_delays t.delay_min t.delay_max) fault.Delay
     ∷ span_fault t.version g 0 [] t.spans
-    ∷ fault_where (is_outside 1 1024 t.every) fault.Every
-    ∷ fault_where (nat_lt 1024 t.losses) fault.Losses
-    ∷ fault_where (nat_lt t.age (beacon_bound t g)) fault.Age
-    ∷ fault_where (is_outside 1 32 t.levels) fault.Levels
-    ∷ fault_where (are_bad_ports t g) fault.Port
-    ∷ fault_where (nat_lt (q_in t) (2 * r_in t)) fault.Weak
-    ∷ fault_where (are_low_kappas t) fault.Kappa
-    ∷ fault_where (is_wide t g) fault.Wide
+    ∷ fault_if (is_outside 1 1024 t.every) fault.Every
+    ∷ fault_if (nat_lt 1024 t.losses) fault.Losses
+    ∷ fault_if (nat_lt t.age (beacon_bound t g)) fault.Age
+    ∷ fault_if (is_outside 1 32 t.levels) fault.Levels
+    ∷ fault_if (are_bad_ports t g) fault.Port
+    ∷ fault_if (nat_lt (q_in t) (2 * r_in t)) fault.Weak
+    ∷ fault_if (are_low_kappas t) fault.Kappa
+    ∷ fault_if (is_wide t g) fault.Wide
     ∷ [])
 
 -- the first fault of a plan

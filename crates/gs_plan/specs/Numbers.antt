@@ -5,8 +5,8 @@ use Rattle.gs_units.specs.Rates.{boosted, crept}
 use Rattle.gs_units.specs.Delays.{delay_comp, delay_jump, delay_spread}
 use Rattle.gs_planfile.specs.declared.text.PlanText.{PlanText}
 use Rattle.gs_topo.specs.Graph.{Graph, adjacent}
-use Rattle.gs_plan.specs.Edges.{edge_text, edge_texts}
-use Rattle.gs_plan.specs.declared.edge.EdgeText.{EdgeText}
+use Rattle.gs_plan.specs.Edges.{edge_given, edges_given}
+use Rattle.gs_plan.specs.declared.edge.EdgeGiven.{EdgeGiven}
 use Rattle.gs_plan.specs.declared.edge.EdgeNumbers.{EdgeNumbers}
 
 -- r: how far two hardware clocks may drift apart in one quantum
@@ -38,31 +38,31 @@ abbrev pub iota_in : PlanText → ℕ
 iota_in t = drift_in t * t.tick + 1
 
 -- j: how far the delays of an edge spread, in clock units
-abbrev pub spread_in : PlanText → EdgeText → ℕ
+abbrev pub spread_in : PlanText → EdgeGiven → ℕ
 spread_in t e = delay_spread t.lo e.delay_min e.delay_max
 
 -- what a beacon's maximum is raised by for its way
-abbrev pub jump_in : PlanText → EdgeText → ℕ
+abbrev pub jump_in : PlanText → EdgeGiven → ℕ
 jump_in t e = delay_jump t.lo e.delay_min
 
 -- what a beacon's clock is raised by for its way
-abbrev pub comp_in : PlanText → EdgeText → ℕ
+abbrev pub comp_in : PlanText → EdgeGiven → ℕ
 comp_in t e = delay_comp t.lo e.delay_min e.delay_max
 
 -- how far an offset may be off when it is used
-abbrev pub delta_in : PlanText → EdgeText → ℕ
+abbrev pub delta_in : PlanText → EdgeGiven → ℕ
 delta_in t e = drift_in t * (t.age + t.tick) + div_ceil (spread_in t e) 2
 
 -- the least kappa that an edge may have
-abbrev pub least_kappa_in : PlanText → EdgeText → ℕ
+abbrev pub least_kappa_in : PlanText → EdgeGiven → ℕ
 least_kappa_in t e = 2 * delta_in t e + 1
 
 -- the skew that one level allows at an edge: the given one, else the least
-abbrev pub kappa_in : PlanText → EdgeText → ℕ
+abbrev pub kappa_in : PlanText → EdgeGiven → ℕ
 kappa_in t e = unwrap_or e.kappa (least_kappa_in t e)
 
 -- all numbers of an edge
-abbrev pub numbers_in : PlanText → EdgeText → EdgeNumbers
+abbrev pub numbers_in : PlanText → EdgeGiven → EdgeNumbers
 numbers_in t e = record {
   delay_min = e.delay_min;
   delay_max = e.delay_max;
@@ -74,12 +74,12 @@ numbers_in t e = record {
 
 -- the numbers of all edges of a graph, in their order
 abbrev pub numbers_of : PlanText → Graph → List EdgeNumbers
-numbers_of t g = map (numbers_in t) (edge_texts t g)
+numbers_of t g = map (numbers_in t) (edges_given t g)
 
 -- the numbers of the edge between v and w, where there is one
 abbrev pub numbers_between : PlanText → Graph → ℕ → ℕ → Option EdgeNumbers
-numbers_between t g v w = if adjacent g v w then Some (numbers_in t (edge_text t (v, w))) else None
+numbers_between t g v w = if adjacent g v w then Some (numbers_in t (edge_given t (v, w))) else None
 
 -- the skew that one level allows between two neighbours
 abbrev pub kappa_between : PlanText → ℕ → ℕ → ℕ
-kappa_between t v w = kappa_in t (edge_text t (v, w))
+kappa_between t v w = kappa_in t (edge_given t (v, w))

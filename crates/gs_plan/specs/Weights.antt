@@ -1,14 +1,11 @@
 -- The weight of a pair of nodes, as a number.
-use Rattle.std.specs.Prelude.{ℕ, zero, suc, ◌+◌, ◌-◌, ◌*◌, ◌<◌, ◌&&◌, ◌||◌, ◌==◌, nat_le, Bool, unwrap_or}
+use Rattle.std.specs.Prelude.{ℕ, zero, suc, ◌+◌, ◌-◌, ◌*◌, ◌&&◌, ◌||◌, ◌==◌, nat_le, Bool, unwrap_or}
 use Rattle.std.specs.List.{list_any, range_with_len}
-use Rattle.gs_topo.specs.Graph.{Graph, adjacent, Adjacent}
-use Rattle.gs_topo.specs.Walks.{IsLeast, diameter_of, least_from}
-use Rattle.gs_topo.specs.Weights.{Weighs}
+use Rattle.gs_topo.specs.Graph.{Graph, adjacent}
+use Rattle.gs_topo.specs.Walks.{diameter_of, least_from}
 use Rattle.gs_planfile.specs.declared.text.PlanText.{PlanText}
-use Rattle.gs_plan.specs.declared.plan.Plan.{Plan}
 use Rattle.gs_plan.specs.Bounds.{greatest_kappa_in}
 use Rattle.gs_plan.specs.Numbers.{kappa_between}
-use Rattle.gs_plan.specs.Plans.{text_of, graph_of}
 
 -- some walk of at most so many steps from v to w has exactly the sum d of the lengths k
 unfoldable pub has_sum : (ℕ → ℕ → Bool) → ℕ → (ℕ → ℕ → ℕ) → ℕ → ℕ → ℕ → ℕ → Bool
@@ -23,15 +20,3 @@ unfoldable pub weight_in : PlanText → Graph → ℕ → ℕ → ℕ
 weight_in t g v w =
     unwrap_or (least_from (λ d. has_sum (adjacent g) g.nodes (kappa_between t) d v w d) 0
     (diameter_of g * greatest_kappa_in t g + 1)) 0
-
--- in every plan it is the least sum over all walks
-abbrev pub WeightsAreLeastSums : Type 0
-WeightsAreLeastSums = (p : Plan) (v w : ℕ) → v < (graph_of p).nodes → w < (graph_of p).nodes
-    → IsLeast (Adjacent (graph_of p)) (graph_of p).nodes (kappa_between (text_of p)) v w
-    (weight_in (text_of p) (graph_of p) v w)
-
--- and fits the kappas of the edges as the laws of the levels ask
-abbrev pub WeightsFitKappas : Type 0
-WeightsFitKappas =
-    (p : Plan) → Weighs (graph_of p).nodes (Adjacent (graph_of p)) (kappa_between (text_of p))
-    (weight_in (text_of p) (graph_of p))

@@ -1,20 +1,20 @@
 ghost use Rattle.std.specs.Prelude.{◌≡◌, ◌<◌, ◌^◌};
 ghost use Rattle.gs_units.specs.Rates.{HasNumbers};
 ghost use Rattle.gs_plan.specs.Bounds.{greatest_delay_in, global_in, greatest_kappa_in, lambda_in, greatest_spread_in};
-ghost use Rattle.gs_plan.specs.Edges.{edge_texts, own_text};
+ghost use Rattle.gs_plan.specs.Edges.{edges_given, own_given};
 
-use crate::edge::{EdgeText, own_text};
+use crate::edge::{EdgeGiven, own_given};
 use crate::numbers::{iota, kappa, spread};
 use gs_planfile::PlanText;
 use gs_topo::Topology;
 use gs_units::Rate;
 
 /// The greatest delay of the plan and its edges.
-pub(crate) fn greatest_delay(text: &PlanText, topo: &Topology, edges: &[EdgeText]) -> u32
-    requires { edges.now ≡ edge_texts text.now topo.now }
+pub(crate) fn greatest_delay(text: &PlanText, topo: &Topology, edges: &[EdgeGiven]) -> u32
+    requires { edges.now ≡ edges_given text.now topo.now }
     ensures { result ≡ greatest_delay_in text.now topo.now }
 {
-    let mut most = own_text(text).delay_max;
+    let mut most = own_given(text).delay_max;
     for edge in edges {
         most = most.max(edge.delay_max);
     }
@@ -22,12 +22,12 @@ pub(crate) fn greatest_delay(text: &PlanText, topo: &Topology, edges: &[EdgeText
 }
 
 /// The greatest spread of the delays of the plan and its edges.
-pub(crate) fn greatest_spread(text: &PlanText, topo: &Topology, edges: &[EdgeText]) -> u128
-    requires { edges.now ≡ edge_texts text.now topo.now }
+pub(crate) fn greatest_spread(text: &PlanText, topo: &Topology, edges: &[EdgeGiven]) -> u128
+    requires { edges.now ≡ edges_given text.now topo.now }
     ensures value { result ≡ greatest_spread_in text.now topo.now }
     ensures small { result < 2 ^ 64 }
 {
-    let mut most = spread(text, own_text(text));
+    let mut most = spread(text, own_given(text));
     for edge in edges {
         most = most.max(spread(text, *edge));
     }
@@ -39,14 +39,14 @@ pub(crate) fn greatest_kappa(
     text: &PlanText,
     rate: Rate,
     topo: &Topology,
-    edges: &[EdgeText],
+    edges: &[EdgeGiven],
 ) -> u128
     requires rate { HasNumbers text.now.lo text.now.hi text.now.mu rate }
-    requires edges { edges.now ≡ edge_texts text.now topo.now }
+    requires edges { edges.now ≡ edges_given text.now topo.now }
     ensures value { result ≡ greatest_kappa_in text.now topo.now }
     ensures small { result < 2 ^ 68 }
 {
-    let mut most = kappa(text, rate, own_text(text));
+    let mut most = kappa(text, rate, own_given(text));
     for edge in edges {
         most = most.max(kappa(text, rate, *edge));
     }
@@ -54,9 +54,9 @@ pub(crate) fn greatest_kappa(
 }
 
 /// How far a maximum may lag behind the greatest clock.
-pub(crate) fn lambda(text: &PlanText, rate: Rate, topo: &Topology, edges: &[EdgeText]) -> u128
+pub(crate) fn lambda(text: &PlanText, rate: Rate, topo: &Topology, edges: &[EdgeGiven]) -> u128
     requires rate { HasNumbers text.now.lo text.now.hi text.now.mu rate }
-    requires edges { edges.now ≡ edge_texts text.now topo.now }
+    requires edges { edges.now ≡ edges_given text.now topo.now }
     ensures value { result ≡ lambda_in text.now topo.now }
     ensures small { result < 2 ^ 98 }
 {
@@ -65,9 +65,9 @@ pub(crate) fn lambda(text: &PlanText, rate: Rate, topo: &Topology, edges: &[Edge
 }
 
 /// The bound of the difference of any two clocks.
-pub(crate) fn global(text: &PlanText, rate: Rate, topo: &Topology, edges: &[EdgeText]) -> u128
+pub(crate) fn global(text: &PlanText, rate: Rate, topo: &Topology, edges: &[EdgeGiven]) -> u128
     requires rate { HasNumbers text.now.lo text.now.hi text.now.mu rate }
-    requires edges { edges.now ≡ edge_texts text.now topo.now }
+    requires edges { edges.now ≡ edges_given text.now topo.now }
     ensures value { result ≡ global_in text.now topo.now }
     ensures small { result < 2 ^ 99 }
 {

@@ -4,13 +4,13 @@ ghost use Rattle.gs_units.specs.Rates.{HasNumbers};
 ghost use Rattle.gs_units.specs.Faults.{rate_fault};
 ghost use Rattle.gs_topo.specs.Graph.{number_of};
 ghost use Rattle.gs_plan.specs.Accepted.{IsAccepted};
-ghost use Rattle.gs_plan.specs.Edges.{edge_texts, own_text, span_text};
+ghost use Rattle.gs_plan.specs.Edges.{edges_given, own_given, span_given};
 ghost use Rattle.gs_plan.specs.inside.Kept.{edge_spans};
-ghost use Rattle.gs_plan.specs.Faults.{are_bad_delays, are_bad_ports, are_low_kappas, beacon_bound, fault_over, fault_where, is_bad_span, is_low_kappa, is_one, is_outside, is_wide, plan_fault, span_fault};
+ghost use Rattle.gs_plan.specs.Faults.{are_bad_delays, are_bad_ports, are_low_kappas, beacon_bound, fault_if, fault_over, is_bad_span, is_low_kappa, is_one, is_outside, is_wide, plan_fault, span_fault};
 ghost use Rattle.gs_plan.specs.Plans.{text_of};
 
 use crate::bounds::{global, greatest_delay, greatest_kappa};
-use crate::edge::{EdgeText, edge_texts, own_text, span_text};
+use crate::edge::{EdgeGiven, edges_given, own_given, span_given};
 use crate::fault::PlanFault;
 use crate::numbers::least_kappa;
 use crate::plan::Plan;
@@ -23,7 +23,7 @@ use std::alloc::{AllocError, Global};
 /// The fault where the test holds.
 fn refuse(test: bool, fault: PlanFault) -> Result<(), PlanFault>
     ensures ok { OnOk result (test ≡ false) }
-    ensures err { IfErr result (λ e. fault_where test fault ≡ Some e) }
+    ensures err { IfErr result (λ e. fault_if test fault ≡ Some e) }
 {
     if test { Err(fault) } else { Ok(()) }
 }
@@ -128,8 +128,8 @@ fn beacon_gap(losses: u32, every: u32, tick: u32) -> u128
 }
 
 /// The least age that lets beacons come in time, whatever is lost.
-fn beacon_bound(text: &PlanText, topo: &Topology, edges: &[EdgeText]) -> u128
-    requires { edges.now ≡ edge_texts text.now topo.now }
+fn beacon_bound(text: &PlanText, topo: &Topology, edges: &[EdgeGiven]) -> u128
+    requires { edges.now ≡ edges_given text.now topo.now }
     ensures { result ≡ beacon_bound text.now topo.now }
 {
     beacon_gap(text.losses, text.every, text.tick) + u128::from(greatest_delay(text, topo, edges))
@@ -144,7 +144,7 @@ fn are_bad_ports(text: &PlanText, topo: &Topology) -> bool
 }
 
 /// Whether a kappa is given and too low.
-fn is_low_kappa(text: &PlanText, rate: Rate, edge: EdgeText) -> bool
+fn is_low_kappa(text: &PlanText, rate: Rate, edge: EdgeGiven) -> bool
     requires { HasNumbers text.now.lo text.now.hi text.now.mu rate }
     ensures { result ≡ is_low_kappa text.now edge }
 {
@@ -157,12 +157,12 @@ fn is_low_kappa(text: &PlanText, rate: Rate, edge: EdgeText) -> bool
 /// Whether the kappa of a span is too low.
 fn is_low_span(text: &PlanText, rate: Rate) -> bool
     requires { HasNumbers text.now.lo text.now.hi text.now.mu rate }
-    ensures { result ≡ list_any (λ s. is_low_kappa text.now (span_text s)) text.now.spans }
+    ensures { result ≡ list_any (λ s. is_low_kappa text.now (span_given s)) text.now.spans }
 {
     let spans = text.spans.as_slice();
     spans
         .iter()
-        .any(|span| is_low_kappa(text, rate, span_text(span)))
+        .any(|span| is_low_kappa(text, rate, span_given(span)))
 }
 
 /// Whether the plan's kappa or that of a span is too low.
@@ -170,13 +170,13 @@ fn are_low_kappas(text: &PlanText, rate: Rate) -> bool
     requires { HasNumbers text.now.lo text.now.hi text.now.mu rate }
     ensures { result ≡ are_low_kappas text.now }
 {
-    is_low_kappa(text, rate, own_text(text)) || is_low_span(text, rate)
+    is_low_kappa(text, rate, own_given(text)) || is_low_span(text, rate)
 }
 
 /// Whether the bounds reach the end of clocks.
-fn is_wide(text: &PlanText, rate: Rate, topo: &Topology, edges: &[EdgeText]) -> bool
+fn is_wide(text: &PlanText, rate: Rate, topo: &Topology, edges: &[EdgeGiven]) -> bool
     requires rate { HasNumbers text.now.lo text.now.hi text.now.mu rate }
-    requires edges { edges.now ≡ edge_texts text.now topo.now }
+    requires edges { edges.now ≡ edges_given text.now topo.now }
     ensures { result ≡ is_wide text.now topo.now }
 {
     let kappa = greatest_kappa(text, rate, topo, edges);
@@ -191,9 +191,9 @@ fn checked_edges(
     text: &PlanText,
     rate: Rate,
     topo: &Topology,
-) -> Result<Vec<EdgeText>, PlanFault>
+) -> Result<Vec<EdgeGiven>, PlanFault>
     requires { HasNumbers text.now.lo text.now.hi text.now.mu rate }
-    ensures edges { IfOk result (λ edges. edges.items ≡ edge_texts text.now topo.now) }
+    ensures edges { IfOk result (λ edges. edges.items ≡ edges_given text.now topo.now) }
     ensures ok { OnOk result (fault_over text.now topo.now ≡ None) }
     ensures accepted { OnOk result (IsAccepted text.now topo.now) }
     ensures err { IfErr result (λ e. e ≢ PlanFault.OutOfMemory → fault_over text.now topo.now ≡ Some e) }
@@ -204,7 +204,7 @@ fn checked_edges(
         PlanFault::Delay,
     )?;
     let spans = spans_by_edge(alloc, text, topo)?;
-    let edges = edge_texts(alloc, text, &spans)?;
+    let edges = edges_given(alloc, text, &spans)?;
     refuse(is_outside(1, 1024, text.every), PlanFault::Every)?;
     refuse(text.losses > 1024, PlanFault::Losses)?;
     let bound = beacon_bound(text, topo, &edges);

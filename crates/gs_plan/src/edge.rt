@@ -1,13 +1,13 @@
 ghost use Rattle.std.specs.Prelude.{◌≡◌, IfOk, map};
 ghost use Rattle.std.specs.Option.{option_map_or};
-ghost use Rattle.gs_plan.specs.Edges.{own_text, span_text};
+ghost use Rattle.gs_plan.specs.Edges.{own_given, span_given};
 
 use gs_planfile::{EdgeSpan, PlanText};
 use std::alloc::{AllocError, Global};
 
 /// What a plan says of an edge.
 #[derive(Clone, Copy, Debug, PartialEq, Eq)]
-pub(crate) struct EdgeText {
+pub(crate) struct EdgeGiven {
     pub(crate) delay_min: u32,
     pub(crate) delay_max: u32,
     /// The kappa that is given.
@@ -32,10 +32,10 @@ pub struct EdgeNumbers {
 }
 
 /// What the plan itself says of its edges.
-pub(crate) fn own_text(text: &PlanText) -> EdgeText
-    ensures { result ≡ own_text text.now }
+pub(crate) fn own_given(text: &PlanText) -> EdgeGiven
+    ensures { result ≡ own_given text.now }
 {
-    EdgeText {
+    EdgeGiven {
         delay_min: text.delay_min,
         delay_max: text.delay_max,
         kappa: text.kappa,
@@ -43,10 +43,10 @@ pub(crate) fn own_text(text: &PlanText) -> EdgeText
 }
 
 /// What a span says of its edge.
-pub(crate) fn span_text(span: &EdgeSpan) -> EdgeText
-    ensures { result ≡ span_text span.now }
+pub(crate) fn span_given(span: &EdgeSpan) -> EdgeGiven
+    ensures { result ≡ span_given span.now }
 {
-    EdgeText {
+    EdgeGiven {
         delay_min: span.delay_min,
         delay_max: span.delay_max,
         kappa: span.kappa,
@@ -54,27 +54,27 @@ pub(crate) fn span_text(span: &EdgeSpan) -> EdgeText
 }
 
 /// What the plan says of an edge with this span.
-fn edge_text(text: &PlanText, span: Option<EdgeSpan>) -> EdgeText
-    ensures { result ≡ option_map_or span_text span (own_text text.now) }
+fn edge_given(text: &PlanText, span: Option<EdgeSpan>) -> EdgeGiven
+    ensures { result ≡ option_map_or span_given span (own_given text.now) }
 {
     match span {
-        Some(span) => span_text(&span),
-        None => own_text(text),
+        Some(span) => span_given(&span),
+        None => own_given(text),
     }
 }
 
 /// What the plan says of each edge, where these are their spans.
-pub(crate) fn edge_texts(
+pub(crate) fn edges_given(
     alloc: Global,
     text: &PlanText,
     spans: &[Option<EdgeSpan>],
-) -> Result<Vec<EdgeText>, AllocError>
+) -> Result<Vec<EdgeGiven>, AllocError>
     ensures { IfOk result (λ texts.
-        texts.items ≡ map (λ span. option_map_or span_text span (own_text text.now)) spans.now) }
+        texts.items ≡ map (λ span. option_map_or span_given span (own_given text.now)) spans.now) }
 {
     let mut texts = Vec::new(alloc);
     for span in spans {
-        texts.push(edge_text(text, *span))?;
+        texts.push(edge_given(text, *span))?;
     }
     Ok(texts)
 }

@@ -1,6 +1,5 @@
 ghost use Rattle.gs_plan.specs.Accepted.{AreAccepted};
-ghost use Rattle.gs_plan.specs.Plans.{PlansAreAccepted};
-ghost use Rattle.gs_plan.specs.Weights.{WeightsAreLeastSums, WeightsFitKappas};
+ghost use Rattle.gs_plan.specs.Plans.{PlansAreAccepted, WeightsAreLeastSums, WeightsFitKappas};
 
 /// What holds of every text that has no fault, and so of every plan.
 pub fn accepted_plans()

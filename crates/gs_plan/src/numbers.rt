@@ -3,7 +3,7 @@ ghost use Rattle.gs_units.specs.Rates.{HasNumbers};
 ghost use Rattle.gs_plan.specs.inside.Kept.{AreWords};
 ghost use Rattle.gs_plan.specs.Numbers.{delta_in, drift_in, iota_in, jump_in, kappa_in, least_kappa_in, numbers_in, spread_in};
 
-use crate::edge::{EdgeNumbers, EdgeText};
+use crate::edge::{EdgeGiven, EdgeNumbers};
 use gs_planfile::PlanText;
 use gs_units::Rate;
 use std::alloc::{AllocError, Global};
@@ -31,7 +31,7 @@ pub(crate) fn iota(text: &PlanText, rate: Rate) -> u128
 }
 
 /// How far the delays of an edge spread, in clock units.
-pub(crate) fn spread(text: &PlanText, edge: EdgeText) -> u128
+pub(crate) fn spread(text: &PlanText, edge: EdgeGiven) -> u128
     ensures value { result ≡ spread_in text.now edge }
     ensures small { result < 2 ^ 64 }
 {
@@ -39,14 +39,14 @@ pub(crate) fn spread(text: &PlanText, edge: EdgeText) -> u128
 }
 
 /// What a beacon's maximum is raised by for its way.
-fn jump(text: &PlanText, edge: EdgeText) -> u64
+fn jump(text: &PlanText, edge: EdgeGiven) -> u64
     ensures value { result ≡ jump_in text.now edge }
 {
     u64::from(text.lo) * u64::from(edge.delay_min)
 }
 
 /// How far an offset may be off when it is used.
-fn delta(text: &PlanText, rate: Rate, edge: EdgeText) -> u128
+fn delta(text: &PlanText, rate: Rate, edge: EdgeGiven) -> u128
     requires { HasNumbers text.now.lo text.now.hi text.now.mu rate }
     ensures value { result ≡ delta_in text.now edge }
     ensures small { result < 2 ^ 66 }
@@ -56,7 +56,7 @@ fn delta(text: &PlanText, rate: Rate, edge: EdgeText) -> u128
 }
 
 /// The least kappa that an edge may have.
-pub(crate) fn least_kappa(text: &PlanText, rate: Rate, edge: EdgeText) -> u128
+pub(crate) fn least_kappa(text: &PlanText, rate: Rate, edge: EdgeGiven) -> u128
     requires { HasNumbers text.now.lo text.now.hi text.now.mu rate }
     ensures value { result ≡ least_kappa_in text.now edge }
     ensures small { result < 2 ^ 68 }
@@ -65,7 +65,7 @@ pub(crate) fn least_kappa(text: &PlanText, rate: Rate, edge: EdgeText) -> u128
 }
 
 /// The skew that one level allows at an edge.
-pub(crate) fn kappa(text: &PlanText, rate: Rate, edge: EdgeText) -> u128
+pub(crate) fn kappa(text: &PlanText, rate: Rate, edge: EdgeGiven) -> u128
     requires { HasNumbers text.now.lo text.now.hi text.now.mu rate }
     ensures value { result ≡ kappa_in text.now edge }
     ensures small { result < 2 ^ 68 }
@@ -77,7 +77,7 @@ pub(crate) fn kappa(text: &PlanText, rate: Rate, edge: EdgeText) -> u128
 }
 
 /// All numbers of an edge whose kappa is not too low and not too great.
-pub(crate) fn edge_numbers(text: &PlanText, rate: Rate, edge: EdgeText) -> EdgeNumbers
+pub(crate) fn edge_numbers(text: &PlanText, rate: Rate, edge: EdgeGiven) -> EdgeNumbers
     requires rate { HasNumbers text.now.lo text.now.hi text.now.mu rate }
     requires words { AreWords text.now edge }
     ensures { result ≡ numbers_in text.now edge }
@@ -97,7 +97,7 @@ pub(crate) fn all_numbers(
     alloc: Global,
     text: &PlanText,
     rate: Rate,
-    edges: &[EdgeText],
+    edges: &[EdgeGiven],
 ) -> Result<Vec<EdgeNumbers>, AllocError>
     requires rate { HasNumbers text.now.lo text.now.hi text.now.mu rate }
     requires words { All (AreWords text.now) edges.now }

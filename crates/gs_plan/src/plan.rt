@@ -7,7 +7,7 @@ ghost use Rattle.gs_plan.specs.Sets.{graphs-prop, lengths-prop, numbers-prop};
 ghost use Rattle.gs_plan.specs.inside.Kept.{AreGreatest, AreLevels, AreOwn, lengths_in};
 
 use crate::bounds::{global, greatest_kappa, lambda};
-use crate::edge::{EdgeNumbers, EdgeText, own_text};
+use crate::edge::{EdgeGiven, EdgeNumbers, own_given};
 use crate::levels::Levels;
 use crate::numbers::{all_numbers, edge_numbers, iota, kappas};
 use gs_planfile::PlanText;
@@ -42,18 +42,15 @@ pub struct Plan {
 
 #[tactic(auto, using(crate::proofs::Keeping::facts))]
 impl Plan {
-    ghost use Rattle.gs_plan.specs.Plans.{text_of, graph_of, rate_of};
+    ghost use Rattle.gs_plan.specs.Plans.{best_edge_of, best_local_of, bound_of, edge_bound_of, edge_of, edges_of, graph_of, greatest_kappa_of, kappa_of, lag_of, local_of, own_comp_of, own_delta_of, own_jump_of, own_kappa_of, params_for, rate_of, text_of, weight_of};
     ghost use Rattle.gs_plan.specs.Accepted.{IsAccepted};
     ghost use Rattle.gs_plan.specs.Levels.{IsBest};
-    ghost use Rattle.gs_plan.specs.Nodes.{link_in, params_in};
+    ghost use Rattle.gs_plan.specs.Nodes.{link_in};
     ghost use Rattle.gs_units.specs.Params.{AreValid};
     ghost use Rattle.gs_topo.specs.Graph.{Adjacent, neighbours_of};
     ghost use Rattle.gs_topo.specs.Walks.{IsLeast};
-    ghost use Rattle.gs_plan.specs.Edges.{edge_texts, own_text};
-    ghost use Rattle.gs_plan.specs.Numbers.{comp_in, delta_in, iota_in, jump_in, kappa_between, kappa_in, numbers_between};
-    ghost use Rattle.gs_plan.specs.Bounds.{best_in, best_edge_in, greatest_kappa_in, lambda_in};
-    ghost use Rattle.gs_plan.specs.Bounds.{level_in, local_in, skew_in};
-    ghost use Rattle.gs_plan.specs.Weights.{weight_in};
+    ghost use Rattle.gs_plan.specs.Edges.{edges_given, own_given};
+    ghost use Rattle.gs_plan.specs.Numbers.{iota_in};
 
     /// The plan of a text that has no fault.
     pub(crate) fn of(
@@ -61,16 +58,16 @@ impl Plan {
         text: &PlanText,
         rate: Rate,
         topo: Topology,
-        edges: &[EdgeText],
+        edges: &[EdgeGiven],
     ) -> Result<Plan, AllocError>
         requires rate { HasNumbers text.now.lo text.now.hi text.now.mu rate }
         requires graph { topo ≡ graph_of_text text.now }
-        requires edges { edges.now ≡ edge_texts text.now topo }
+        requires edges { edges.now ≡ edges_given text.now topo }
         requires no_fault { plan_fault text.now ≡ None }
         requires accepted { IsAccepted text.now topo }
         ensures { IfOk result (λ plan. text_of plan ≡ text.now) }
     {
-        let own = edge_numbers(text, rate, own_text(text));
+        let own = edge_numbers(text, rate, own_given(text));
         let numbers = all_numbers(alloc, text, rate, edges)?;
         let weights = Weights::new(alloc, &topo, &kappas(alloc, &numbers)?)?;
         let greatest_kappa = greatest_kappa(text, rate, &topo, edges) as u64;
@@ -119,28 +116,28 @@ impl Plan {
 
     /// The plan's own kappa: the skew that one level allows at an edge without a span, in clock units.
     pub fn kappa(&self) -> u64
-        ensures { result ≡ kappa_in (text_of self.now) (own_text (text_of self.now)) }
+        ensures { result ≡ own_kappa_of self.now }
     {
         self.own.kappa
     }
 
     /// How far an offset over an edge without a span may be off when it is used, in clock units.
     pub fn delta(&self) -> u64
-        ensures { result ≡ delta_in (text_of self.now) (own_text (text_of self.now)) }
+        ensures { result ≡ own_delta_of self.now }
     {
         self.own.delta
     }
 
     /// What a beacon's clock is raised by for its way over an edge without a span, in clock units.
     pub fn comp(&self) -> u64
-        ensures { result ≡ comp_in (text_of self.now) (own_text (text_of self.now)) }
+        ensures { result ≡ own_comp_of self.now }
     {
         self.own.comp
     }
 
     /// What a beacon's maximum is raised by for its way over an edge without a span, in clock units.
     pub fn jump(&self) -> u64
-        ensures { result ≡ jump_in (text_of self.now) (own_text (text_of self.now)) }
+        ensures { result ≡ own_jump_of self.now }
     {
         self.own.jump
     }
@@ -155,14 +152,14 @@ impl Plan {
 
     /// How far the maximum of a node may lag behind the greatest clock, in clock units.
     pub fn lambda(&self) -> u64
-        ensures { result ≡ lambda_in (text_of self.now) (graph_of self.now) }
+        ensures { result ≡ lag_of self.now }
     {
         self.lambda
     }
 
     /// The greatest kappa of the plan and its edges, in clock units.
     pub fn greatest_kappa(&self) -> u64
-        ensures { result ≡ greatest_kappa_in (text_of self.now) (graph_of self.now) }
+        ensures { result ≡ greatest_kappa_of self.now }
     {
         self.greatest_kappa
     }
@@ -170,7 +167,7 @@ impl Plan {
     /// The bound of level `s`, in clock units. Level 0 bounds the difference of any two clocks.
     pub fn g_level(&self, s: u32) -> u64
         requires { s ≤ (text_of self.now).levels }
-        ensures { result ≡ level_in (text_of self.now) (graph_of self.now) s }
+        ensures { result ≡ bound_of self.now s }
     {
         self.levels.bound(s)
     }
@@ -178,15 +175,15 @@ impl Plan {
     /// The bound that level `s` gives for the difference of the ends of any edge, in clock units.
     pub fn local(&self, s: u32) -> u64
         requires { s ≤ (text_of self.now).levels }
-        ensures { result ≡ local_in (text_of self.now) (graph_of self.now) s }
+        ensures { result ≡ local_of self.now s }
     {
         self.levels.skew(self.greatest_kappa, s)
     }
 
     /// The first level whose bound for any edge is least, and that bound in clock units.
     pub fn best(&self) -> (u32, u64)
-        ensures value { result ≡ best_in (text_of self.now) (graph_of self.now) }
-        ensures best { IsBest (local_in (text_of self.now) (graph_of self.now))
+        ensures value { result ≡ best_local_of self.now }
+        ensures best { IsBest (local_of self.now)
             (text_of self.now).levels result }
     {
         self.best_over(self.greatest_kappa)
@@ -195,14 +192,14 @@ impl Plan {
     /// The numbers of the edge of this number.
     pub fn edge(&self, e: u32) -> EdgeNumbers
         requires { e < length (graph_of self.now).edges }
-        ensures { slice_get (numbers_of (text_of self.now) (graph_of self.now)) e ≡ Some result }
+        ensures { slice_get (edges_of self.now) e ≡ Some result }
     {
         self.edges[e as usize]
     }
 
     /// The numbers of the edge between `v` and `w`, where there is one.
     pub fn edge_over(&self, v: u32, w: u32) -> Option<EdgeNumbers>
-        ensures { result ≡ numbers_between (text_of self.now) (graph_of self.now) v w }
+        ensures { result ≡ edge_of self.now v w }
     {
         let e = self.topo.edge_between(v, w)?;
         Some(self.edges[e as usize])
@@ -212,10 +209,10 @@ impl Plan {
     /// units.
     pub fn best_edge(&self, e: u32) -> (u32, u64)
         requires { e < length (graph_of self.now).edges }
-        ensures value { IfSome (slice_get (numbers_of (text_of self.now) (graph_of self.now)) e)
-            (λ edge. result ≡ best_edge_in (text_of self.now) (graph_of self.now) edge.kappa) }
-        ensures best { IfSome (slice_get (numbers_of (text_of self.now) (graph_of self.now)) e) (λ edge.
-            IsBest (skew_in (text_of self.now) (graph_of self.now) edge.kappa) (text_of self.now).levels result) }
+        ensures value { IfSome (slice_get (edges_of self.now) e)
+            (λ edge. result ≡ best_edge_of self.now edge.kappa) }
+        ensures best { IfSome (slice_get (edges_of self.now) e) (λ edge.
+            IsBest (edge_bound_of self.now edge.kappa) (text_of self.now).levels result) }
     {
         self.best_over(self.edge(e).kappa)
     }
@@ -224,8 +221,8 @@ impl Plan {
     /// clock units.
     pub fn best_over(&self, kappa: u64) -> (u32, u64)
         requires { 2 * (text_of self.now).levels * kappa < 2 ^ 62 }
-        ensures value { result ≡ best_edge_in (text_of self.now) (graph_of self.now) kappa }
-        ensures best { IsBest (skew_in (text_of self.now) (graph_of self.now) kappa)
+        ensures value { result ≡ best_edge_of self.now kappa }
+        ensures best { IsBest (edge_bound_of self.now kappa)
             (text_of self.now).levels result }
     {
         self.levels.best(kappa)
@@ -235,9 +232,9 @@ impl Plan {
     /// in clock units.
     pub fn weight(&self, v: u32, w: u32) -> u128
         requires { (v < (graph_of self.now).nodes) × (w < (graph_of self.now).nodes) }
-        ensures value { result ≡ weight_in (text_of self.now) (graph_of self.now) v w }
+        ensures value { result ≡ weight_of self.now v w }
         ensures least { IsLeast (Adjacent (graph_of self.now)) (graph_of self.now).nodes
-            (kappa_between (text_of self.now)) v w result }
+            (kappa_of self.now) v w result }
         ensures small { result < 2 ^ 70 }
     {
         self.weights.weight(&self.topo, v, w)
@@ -247,7 +244,7 @@ impl Plan {
     pub fn node(&self, alloc: Global, v: u32) -> Result<NodeParams, AllocError>
         requires { v < (graph_of self.now).nodes }
         ensures value { IfOk result (λ params.
-            params ≡ params_in (text_of self.now) (graph_of self.now) (rate_of self.now) v) }
+            params ≡ params_for self.now v) }
         ensures valid { IfOk result AreValid }
     {
         // Read on their own, these two are known to be words of 32 bits.

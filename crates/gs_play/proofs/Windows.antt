@@ -4,7 +4,7 @@ use Rattle.std.specs.List.{find}
 use Rattle.std.specs.Option.{option_map_or}
 use Rattle.gs_planfile.specs.declared.text.EdgeSpan.{EdgeSpan}
 use Rattle.gs_planfile.specs.declared.text.PlanText.{PlanText}
-use Rattle.gs_plan.specs.Edges.{edge_text, own_text, span_text}
+use Rattle.gs_plan.specs.Edges.{edge_given, own_given, span_given}
 use Rattle.gs_plan.specs.Plans.{text_of}
 use Rattle.gs_plan.specs.declared.plan.Plan.{Plan}
 use Rattle.gs_topo.specs.Graph.{joins}
@@ -16,19 +16,19 @@ least_low : (d : ℕ) (ss : List EdgeSpan) → least_delay d ss ≤ d
 least_low d [] = omega arith
 least_low d (s ∷ ss) = let low = least_low (min d s.delay_min) ss in omega (arith, low)
 
-least_found : (p : EdgeSpan → Bool) (t : PlanText) (d : ℕ) (ss : List EdgeSpan) → d ≤ t.delay_min → least_delay d ss ≤ (option_map_or span_text (find p ss) (own_text t)).delay_min
+least_found : (p : EdgeSpan → Bool) (t : PlanText) (d : ℕ) (ss : List EdgeSpan) → d ≤ t.delay_min → least_delay d ss ≤ (option_map_or span_given (find p ss) (own_given t)).delay_min
 least_found p t d [] le = le
 least_found p t d (s ∷ ss) le =
     let low = least_low (min d s.delay_min) ss in
     pick (p s) (omega (arith, low)) (least_found p t (min d s.delay_min) ss (omega (arith, le)))
   where
-    pick : (b : Bool) → least_delay (min d s.delay_min) ss ≤ s.delay_min → least_delay (min d s.delay_min) ss ≤ (option_map_or span_text (find p ss) (own_text t)).delay_min
-        → least_delay (min d s.delay_min) ss ≤ (option_map_or span_text (cond b (Some s) (find p ss)) (own_text t)).delay_min
+    pick : (b : Bool) → least_delay (min d s.delay_min) ss ≤ s.delay_min → least_delay (min d s.delay_min) ss ≤ (option_map_or span_given (find p ss) (own_given t)).delay_min
+        → least_delay (min d s.delay_min) ss ≤ (option_map_or span_given (cond b (Some s) (find p ss)) (own_given t)).delay_min
     pick true here rest = here
     pick false here rest = rest
 
 -- no delay is less
-least_is : (t : PlanText) (v w : ℕ) → least_delay t.delay_min t.spans ≤ (edge_text t (v, w)).delay_min
+least_is : (t : PlanText) (v w : ℕ) → least_delay t.delay_min t.spans ≤ (edge_given t (v, w)).delay_min
 least_is t v w = least_found (λ s. joins (s.a, s.b) v w) t t.delay_min t.spans (omega arith)
 
 pub longest_is : (p : Plan) (m n : ℕ) → n ≤ longest_window (text_of p) → IsWindow (net_of p) m (m + n)

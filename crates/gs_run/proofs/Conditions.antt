@@ -5,7 +5,7 @@ use Rattle.std.proofs.lemmas.List.Elements.{Contains-get_or}
 use Rattle.gs_trigger.specs.Triggers.{Sight, HaveMargins}
 use Rattle.gs_trigger.specs.Triggers.{odd_level, even_level, FastAt, SlowAt, IsFarAhead, IsNotTooFarBehind, IsFarBehind, IsNotTooFarAhead}
 use Rattle.gs_trigger.proofs.Apart.{not_fast_in_front, not_slow_at_the_back}
-use Rattle.gs_skew.specs.Conditions.{IsAhead, IsBehind}
+use Rattle.gs_skew.specs.Conditions.{MeetsSlowCondition, MeetsFastCondition}
 use Rattle.gs_run.specs.Net.{Net, Adjacent, neighbours, neighbour, link_of, delta_of}
 use Rattle.gs_run.specs.Accepted.{AreNumbers}
 use Rattle.gs_run.proofs.History.{Steers, Sees, IsEqual}
@@ -96,7 +96,7 @@ seen_have_margins net new v l sights numbers seen =
 
 -- a node in the fast condition decided by a fast trigger of that level
 pub behind_is_fast : (net : Net) (new : ℕ → ℕ) (v l s : ℕ) (sights : List Sight) → AreSeen net new v l sights
-    → IsBehind net.nodes (Adjacent net) (λ a b. (2 * s - 1) * net.kappa a b) new v → FastAt sights s
+    → MeetsFastCondition net.nodes (Adjacent net) (λ a b. (2 * s - 1) * net.kappa a b) new v → FastAt sights s
 behind_is_fast net new v l s sights seen behind = (
   some_seen net new v l behind.some.0 sights (IsFarAhead s) seen behind.some.1 behind.some.2
       (λ e within. ahead_by (odd_level (net.kappa v behind.some.0) s) (delta_of net v behind.some.0) e l
@@ -107,7 +107,7 @@ behind_is_fast net new v l s sights seen behind = (
 
 -- and one in the slow condition by a slow one
 pub ahead_is_slow : (net : Net) (new : ℕ → ℕ) (v l s : ℕ) (sights : List Sight) → AreSeen net new v l sights
-    → IsAhead net.nodes (Adjacent net) (λ a b. 2 * s * net.kappa a b) new v → SlowAt sights s
+    → MeetsSlowCondition net.nodes (Adjacent net) (λ a b. 2 * s * net.kappa a b) new v → SlowAt sights s
 ahead_is_slow net new v l s sights seen ahead = (
   some_seen net new v l ahead.some.0 sights (IsFarBehind s) seen ahead.some.1 ahead.some.2
       (λ e within. behind_by (even_level (net.kappa v ahead.some.0) s) (delta_of net v ahead.some.0) e l

@@ -14,7 +14,7 @@ IsCloseOver net v x estimate clock = IsClose (drift_of net.rate * net.age) (spre
 -- an estimate that a beacon gave
 pub beacon_is_close : (net : Net) (last : ℕ) (row reading : ℕ → ℕ → ℕ) (v x t estimate : ℕ) → Grows net last row reading
     → v < net.nodes → x < net.nodes → t ≤ last → (e : Estimates net row reading v x t estimate)
-    → (e.value ≡ row e.sent x + comp_of net v x) × (e.sent + net.soonest v x ≤ e.heard) × (e.heard ≤ e.sent + net.latest v x)
+    → (e.value ≡ row e.sent x + comp_of net v x) × (e.sent + net.delay_min v x ≤ e.heard) × (e.heard ≤ e.sent + net.delay_max v x)
     → IsCloseOver net v x estimate (row t x)
 beacon_is_close net last row reading v x t estimate grows hv hx inside e beacon =
     let way : ℕ = e.heard - e.sent in
@@ -24,7 +24,7 @@ beacon_is_close net last row reading v x t estimate grows hv hx inside e beacon 
     let read = reading_growth net last row reading grows v e.heard t hv e.until inside in
     let grown = row_growth net last row reading grows x e.sent t hx from_sent inside in
     let since : row e.sent x + (row t x - row e.sent x) ≡ row t x = omega (arith, row_reached net last row reading grows x e.sent t hx from_sent inside) in
-    rw (e.is, ← since) (closeness.beacon_is_close net.rate (net.soonest v x) (net.latest v x) way kept net.age (row e.sent x) (row t x - row e.sent x)
+    rw (e.is, ← since) (closeness.beacon_is_close net.rate (net.delay_min v x) (net.delay_max v x) way kept net.age (row e.sent x) (row t x - row e.sent x)
     (record { seq = 0; value = e.value; at = reading e.heard v }) (reading t v)
     (omega (arith, beacon.1), omega (arith, beacon.2)) (omega (arith, total, e.recent)) beacon.0 read (rw total grown))
 

@@ -82,7 +82,7 @@ new_base net total last t v i m s grows ht c b sent in_time =
     reached_later net last (row_of net total) (reading_of total) grows s.quantum t s.beacon.m sent.before ht
     sent.reached in
     let early = in_time.early in
-    let travelled : net.rate.lo * net.soonest v x ≤ net.rate.lo * (t - s.quantum) =
+    let travelled : net.rate.lo * net.delay_min v x ≤ net.rate.lo * (t - s.quantum) =
     mul-le-mul_left net.rate.lo (omega (arith, early)) in
     raise_cases net.rate m.node.max (s.beacon.m + jump_of net v x) m.reading (λ new. IsBase net total t v new)
     (λ more.
@@ -96,7 +96,7 @@ new_base net total last t v i m s grows ht c b sent in_time =
     (λ less. b)
 
 -- what the beacon tells of its sender's maximum
-tells : (net : Net) (total : List World) (t v x : ℕ) (s : Sent) → net.soonest v x ≤ net.latest v x
+tells : (net : Net) (total : List World) (t v x : ℕ) (s : Sent) → net.delay_min v x ≤ net.delay_max v x
     → IsSent net total t x s → IsInTime net t v x s
     → most_of net total s.quantum x + g_of net.rate * (t - s.quantum) ≤ s.beacon.m + jump_of net v x + spread_of net v x
 tells net total t v x s order sent in_time =
@@ -104,11 +104,11 @@ tells net total t v x s order sent in_time =
     let late = in_time.late in
     let less : g_of net.rate * (t - s.quantum) ≤ net.rate.lo * (t - s.quantum) =
     mul-le-mul_right (t - s.quantum) (g-below net.rate) in
-    let way : net.rate.lo * (t - s.quantum) ≤ net.rate.lo * (net.soonest v x + (net.latest v x - net.soonest v x)) =
+    let way : net.rate.lo * (t - s.quantum) ≤ net.rate.lo * (net.delay_min v x + (net.delay_max v x - net.delay_min v x)) =
     mul-le-mul_left net.rate.lo (omega (arith, late, order)) in
-    let parts : net.rate.lo * (net.soonest v x + (net.latest v x - net.soonest v x))
-    ≡ net.rate.lo * net.soonest v x + net.rate.lo * (net.latest v x - net.soonest v x) =
-    mul-add net.rate.lo (net.soonest v x) (net.latest v x - net.soonest v x) in
+    let parts : net.rate.lo * (net.delay_min v x + (net.delay_max v x - net.delay_min v x))
+    ≡ net.rate.lo * net.delay_min v x + net.rate.lo * (net.delay_max v x - net.delay_min v x) =
+    mul-add net.rate.lo (net.delay_min v x) (net.delay_max v x - net.delay_min v x) in
     omega (arith, most, less, way, parts)
 
 -- a fresh beacon

@@ -15,7 +15,7 @@ IsReached n row t m = (x : ℕ) × (x < n) × (m ≤ row t x)
 -- an entry of v for x: what a beacon told, or what v put in at the start
 abbrev pub IsFrom : Net → (ℕ → ℕ → ℕ) → ℕ → ℕ → ℕ → ℕ → ℕ → Type 0
 IsFrom net row v x sent heard value =
-    ((value ≡ row sent x + comp_of net v x) × (sent + net.soonest v x ≤ heard) × (heard ≤ sent + net.latest v x))
+    ((value ≡ row sent x + comp_of net v x) × (sent + net.delay_min v x ≤ heard) × (heard ≤ sent + net.delay_max v x))
     ⊎ ((value ≡ row 0 v) × (sent ≡ 0) × (heard ≡ 0))
 
 -- an estimate that v has of x at t

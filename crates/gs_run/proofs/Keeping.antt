@@ -34,8 +34,8 @@ Invariant = ℕ → ℕ → Member → Decision → Type 0
 
 -- the newest beacon's age when it is heard
 pub record IsInTime (net : Net) (t v x : ℕ) (s : Sent) : Type 0 where
-  pub early : s.quantum + net.soonest v x ≤ t
-  pub late : t ≤ s.quantum + net.latest v x
+  pub early : s.quantum + net.delay_min v x ≤ t
+  pub late : t ≤ s.quantum + net.delay_max v x
 
 -- the node has ticked and has heard of its neighbours lately enough for one more quantum
 pub record MayGoOn (net : Net) (t : ℕ) (m : Member) : Type 0 where

@@ -5,7 +5,7 @@ use Rattle.gs_units.specs.declared.rate.Mode.TheVariants.{Slow, Fast}
 use Rattle.gs_topo.specs.Weights.{Weighs}
 use Rattle.gs_topo.proofs.Weighing.{least_sums_weigh}
 use Rattle.gs_steer.proofs.Deciding.{fast_by_trigger, slow_by_trigger}
-use Rattle.gs_skew.specs.Conditions.{IsAhead, IsBehind}
+use Rattle.gs_skew.specs.Conditions.{MeetsSlowCondition, MeetsFastCondition}
 use Rattle.gs_skew.specs.Rows.{AreRows}
 use Rattle.gs_skew.proofs.Bounded.{keeps_bound, edges_keep_bound}
 use Rattle.gs_run.specs.Net.{Net, Adjacent, iota_of, skew_of, level_of}
@@ -22,7 +22,7 @@ IsFair net row t u = (when : ℕ) → t < when + net.tick → when ≤ net.age �
 -- a node that is in the fast condition at the end of a quantum was fast in it
 pub behind_grows : (net : Net) (last : ℕ) (row reading most : ℕ → ℕ → ℕ) → AreNumbers net → IsHistory net last row reading most → (s t u : ℕ) → 1 ≤ s
     → t < last → u < net.nodes → IsFair net row t u
-    → IsBehind net.nodes (Adjacent net) (λ a b. (2 * s - 1) * net.kappa a b) (row (suc t)) u → row t u + net.rate.lo + q_of net.rate ≤ row (suc t) u
+    → MeetsFastCondition net.nodes (Adjacent net) (λ a b. (2 * s - 1) * net.kappa a b) (row (suc t)) u → row t u + net.rate.lo + q_of net.rate ≤ row (suc t) u
 behind_grows net last row reading most numbers h s t u one ht hu fair behind =
     let grows = history_grows net last row reading most h in
     let d = h.steers t u ht hu in
@@ -35,7 +35,7 @@ behind_grows net last row reading most numbers h s t u one ht hu fair behind =
 -- and one in the slow condition was slow
 pub ahead_grows : (net : Net) (last : ℕ) (row reading most : ℕ → ℕ → ℕ) → AreNumbers net → IsHistory net last row reading most → (s t w : ℕ) → 1 ≤ s
     → t < last → w < net.nodes → IsFair net row t w
-    → IsAhead net.nodes (Adjacent net) (λ a b. 2 * s * net.kappa a b) (row (suc t)) w → row (suc t) w ≤ row t w + (net.rate.lo + r_of net.rate)
+    → MeetsSlowCondition net.nodes (Adjacent net) (λ a b. 2 * s * net.kappa a b) (row (suc t)) w → row (suc t) w ≤ row t w + (net.rate.lo + r_of net.rate)
 ahead_grows net last row reading most numbers h s t w one ht hw fair ahead =
     let grows = history_grows net last row reading most h in
     let d = h.steers t w ht hw in

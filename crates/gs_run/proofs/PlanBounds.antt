@@ -2,7 +2,7 @@
 use Rattle.std.proofs.Common.{◌≡◌, ℕ, zero, suc, ◌*◌, ◌<◌, arith, inl, inr, refl, subst, sym, List, [], ◌∷◌, All, length, get_or, take}
 use Rattle.std.proofs.Math.Nat.{mul-le-mul_left}
 use Rattle.gs_topo.specs.Graph.{Adjacent, Graph, joins}
-use Rattle.gs_topo.specs.Walks.{IsGraph}
+use Rattle.gs_topo.specs.Walks.{IsTopology}
 use Rattle.gs_topo.proofs.Ascending.{joins-cases}
 use Rattle.gs_topo.proofs.Members.{member-from_list_any}
 use Rattle.gs_planfile.specs.declared.text.PlanText.{PlanText}
@@ -25,7 +25,7 @@ use Rattle.gs_run.proofs.PlanNumbers.{bounds_are_the_plans, plan_has_numbers}
 use Rattle.gs_run.proofs.Theorems.{always_bounded}
 
 -- the ends of an edge are nodes
-adjacent_nodes : (g : Graph) → IsGraph g → (v w : ℕ) → Adjacent g v w → (v < g.nodes) × (w < g.nodes)
+adjacent_nodes : (g : Graph) → IsTopology g → (v w : ℕ) → Adjacent g v w → (v < g.nodes) × (w < g.nodes)
 adjacent_nodes g is v w next =
     let found = member-from_list_any (λ e. joins e v w) g.edges next in
     let e : ℕ × ℕ = found.0 in
@@ -45,7 +45,7 @@ bounded_is_within p w bounded maxima =
     let t : PlanText = text_of p in
     let g : Graph = graph_of p in
     let same : HasPlanBounds p = bounds_are_the_plans p in
-    let graph : IsGraph g = plan_is_graph t g p.accepted p.graph in
+    let graph : IsTopology g = plan_is_graph t g p.accepted p.graph in
     record {
       global = (let most = bounded.global in let is = same.global in omega (arith, most, is));
       potentials = λ s. (let most = bounded.levels s in let is = same.levels s in omega (arith, most, is));

@@ -6,14 +6,14 @@ use Rattle.gs_units.specs.declared.params.Link.{Link}
 use Rattle.gs_units.specs.declared.params.NodeParams.{NodeParams}
 use Rattle.gs_units.specs.declared.rate.Rate.{Rate}
 use Rattle.gs_topo.specs.Graph.{Graph, Adjacent, neighbours_of}
-use Rattle.gs_topo.specs.Walks.{IsGraph, IsWalk, diameter_of, length_of, one_each}
+use Rattle.gs_topo.specs.Walks.{IsTopology, IsWalk, diameter_of, length_of, one_each}
 use Rattle.gs_topo.proofs.Distances.{both_ways, is_least}
 use Rattle.gs_topo.proofs.Tables.{at_most_diameter}
 use Rattle.gs_planfile.specs.declared.text.PlanText.{PlanText}
 use Rattle.gs_plan.specs.declared.edge.EdgeNumbers.{EdgeNumbers}
 use Rattle.gs_plan.specs.Accepted.{IsAccepted, IsFine}
 use Rattle.gs_plan.specs.Bounds.{global_in, lambda_in, level_in, greatest_spread_in}
-use Rattle.gs_plan.specs.Edges.{edge_text, edge_texts, own_text}
+use Rattle.gs_plan.specs.Edges.{edge_given, edges_given, own_given}
 use Rattle.gs_plan.specs.Nodes.{link_in}
 use Rattle.gs_plan.specs.Numbers.{delta_in, iota_in, kappa_in, numbers_in, q_in, r_in, spread_in}
 use Rattle.gs_plan.specs.Plans.{graph_of, rate_of, text_of}
@@ -33,12 +33,12 @@ half_up : (x : ℕ) → (x + 1) / 2 ≡ div_ceil x 2
 half_up x = omega arith
 
 spread_is : (t : PlanText) (g : Graph) (rate : Rate) (v w : ℕ) → HasNumbers t.lo t.hi t.mu rate
-    → spread_of (net_in t g rate) v w ≡ spread_in t (edge_text t (v, w))
+    → spread_of (net_in t g rate) v w ≡ spread_in t (edge_given t (v, w))
 spread_is t g rate v w numbers = rw numbers.lo refl
 
 delta_is : (t : PlanText) (g : Graph) (rate : Rate) (v w : ℕ) → HasNumbers t.lo t.hi t.mu rate
-    → delta_of (net_in t g rate) v w ≡ delta_in t (edge_text t (v, w))
-delta_is t g rate v w numbers = rw (numbers.hi, numbers.mu, numbers.lo, half_up (spread_in t (edge_text t (v, w)))) refl
+    → delta_of (net_in t g rate) v w ≡ delta_in t (edge_given t (v, w))
+delta_is t g rate v w numbers = rw (numbers.hi, numbers.mu, numbers.lo, half_up (spread_in t (edge_given t (v, w)))) refl
 
 iota_is : (t : PlanText) (g : Graph) (rate : Rate) → HasNumbers t.lo t.hi t.mu rate
     → iota_of (net_in t g rate) ≡ iota_in t
@@ -63,28 +63,28 @@ strong_is t rate numbers h = rw (numbers.hi, numbers.lo, numbers.mu) h
 
 -- ---- what holds of each edge holds of its two ends
 
-fine_between : (t : PlanText) (g : Graph) (v w : ℕ) → IsAccepted t g → Adjacent g v w → IsFine t (edge_text t (v, w))
+fine_between : (t : PlanText) (g : Graph) (v w : ℕ) → IsAccepted t g → Adjacent g v w → IsFine t (edge_given t (v, w))
 fine_between t g v w is next =
     let found = has_number g v w next in
-    let at = text_at t g v w found.0 (own_text t) found.1 in
-    let here : get_or (edge_texts t g) found.0 (own_text t) ≡ edge_text t (v, w) = at.1 in
-    subst (λ e. IsFine t e) here (is.edges found.0 (own_text t) at.0)
+    let at = text_at t g v w found.0 (own_given t) found.1 in
+    let here : get_or (edges_given t g) found.0 (own_given t) ≡ edge_given t (v, w) = at.1 in
+    subst (λ e. IsFine t e) here (is.edges found.0 (own_given t) at.0)
 
 in_age_between : (t : PlanText) (g : Graph) (v w : ℕ) → IsAccepted t g → Adjacent g v w
-    → (edge_text t (v, w)).delay_max ≤ t.age
+    → (edge_given t (v, w)).delay_max ≤ t.age
 in_age_between t g v w is next =
     let found = has_number g v w next in
-    let at = text_at t g v w found.0 (own_text t) found.1 in
-    let here : get_or (edge_texts t g) found.0 (own_text t) ≡ edge_text t (v, w) = at.1 in
-    subst (λ e. (numbers_in t e).delay_max ≤ t.age) here (is.in_age found.0 (own_text t) at.0)
+    let at = text_at t g v w found.0 (own_given t) found.1 in
+    let here : get_or (edges_given t g) found.0 (own_given t) ≡ edge_given t (v, w) = at.1 in
+    subst (λ e. (numbers_in t e).delay_max ≤ t.age) here (is.in_age found.0 (own_given t) at.0)
 
 spread_between : (t : PlanText) (g : Graph) (v w : ℕ) → Adjacent g v w
-    → spread_in t (edge_text t (v, w)) ≤ greatest_spread_in t g
+    → spread_in t (edge_given t (v, w)) ≤ greatest_spread_in t g
 spread_between t g v w next =
     let found = has_number g v w next in
-    let at = text_at t g v w found.0 (own_text t) found.1 in
-    let here : get_or (edge_texts t g) found.0 (own_text t) ≡ edge_text t (v, w) = at.1 in
-    subst (λ e. spread_in t e ≤ greatest_spread_in t g) here (each_below (spread_in t) t g found.0 (own_text t) at.0)
+    let at = text_at t g v w found.0 (own_given t) found.1 in
+    let here : get_or (edges_given t g) found.0 (own_given t) ≡ edge_given t (v, w) = at.1 in
+    subst (λ e. spread_in t e ≤ greatest_spread_in t g) here (each_below (spread_in t) t g found.0 (own_given t) at.0)
 
 -- ---- a walk of at most as many steps as the diameter
 
@@ -92,7 +92,7 @@ count_steps : (v : ℕ) (xs : List ℕ) → length_of one_each v xs ≡ length x
 count_steps v [] = refl
 count_steps v (x ∷ xs) = let rest = count_steps x xs in omega (arith, rest)
 
-short_walk : (g : Graph) → IsGraph g → (v w : ℕ) → v < g.nodes → w < g.nodes
+short_walk : (g : Graph) → IsTopology g → (v w : ℕ) → v < g.nodes → w < g.nodes
     → (xs : List ℕ) × IsWalk (Adjacent g) g.nodes v xs w × (length xs ≤ diameter_of g)
 short_walk g is v w hv hw =
     let found = (is_least g is.connected v w hv hw).some in
@@ -109,14 +109,14 @@ plan_has_numbers p =
     let g : Graph = graph_of p in
     let numbers : HasNumbers t.lo t.hi t.mu (rate_of p) = p.rates in
     let is : IsAccepted t g = plan_accepted p.text p.topo p.accepted p.graph in
-    let graph : IsGraph g = plan_is_graph p.text p.topo p.accepted p.graph in
+    let graph : IsTopology g = plan_is_graph p.text p.topo p.accepted p.graph in
     record {
       some = graph.some;
       tick = is.tick;
       every = is.every;
       both_ways = both_ways g;
-      same_soonest = λ v w. ap (λ (n : EdgeNumbers). n.delay_min) (ap (numbers_in t) (same_text t v w));
-      same_latest = λ v w. ap (λ (n : EdgeNumbers). n.delay_max) (ap (numbers_in t) (same_text t v w));
+      same_delay_min = λ v w. ap (λ (n : EdgeNumbers). n.delay_min) (ap (numbers_in t) (same_text t v w));
+      same_delay_max = λ v w. ap (λ (n : EdgeNumbers). n.delay_max) (ap (numbers_in t) (same_text t v w));
       same_kappa = λ v w. ap (kappa_in t) (same_text t v w);
       delays = λ v w next. (fine_between t g v w is next).delays;
       in_age = λ v w next. in_age_between t g v w is next;

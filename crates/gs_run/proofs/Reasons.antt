@@ -5,7 +5,8 @@ use Rattle.gs_core.specs.declared.event.Event.TheVariants.{Quantum, Tick, Delive
 use Rattle.gs_run.specs.Net.{Net, place_of}
 use Rattle.gs_run.specs.Refusing.{AllowedWhereNoneIsRefused, NoneWantsMemory}
 use Rattle.gs_run.specs.Run.{first_refused, or_refused}
-use Rattle.gs_run.specs.Why.{at_node, or_else, refused_if, stale_at, stale_of, stale_place, why, why_deliver, why_sent}
+use Rattle.std.specs.Option.{option_or}
+use Rattle.gs_run.specs.Why.{refused_if, at_node, stale_at, stale_of, stale_place, why, why_deliver, why_sent}
 use Rattle.gs_run.specs.World.{Sent, World, effect, member, sent_by}
 use Rattle.gs_run.specs.declared.refused.Refused.{Refused}
 use Rattle.gs_run.specs.declared.refused.Refused.TheVariants.{Shape, End, Drift, TickDue, Early, Late, OutOfMemory}
@@ -14,7 +15,7 @@ use Rattle.gs_run.proofs.FirstRefused.{allowed_from_none, none_from_allowed}
 abbrev IsNamed : Option Refused → Type 0
 IsNamed o = o ≢ Some OutOfMemory
 
-or_named : (a b : Option Refused) → IsNamed a → IsNamed b → IsNamed (or_else a b)
+or_named : (a b : Option Refused) → IsNamed a → IsNamed b → IsNamed (option_or a b)
 or_named None b ha hb = hb
 or_named (Some r) b ha hb = ha
 

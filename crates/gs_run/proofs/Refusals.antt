@@ -8,13 +8,14 @@ use Rattle.gs_units.specs.Growth.{IsIncrement}
 use Rattle.gs_core.specs.declared.event.Event.TheVariants.{Quantum, Tick, Deliver}
 use Rattle.gs_run.specs.Net.{Net, place_of}
 use Rattle.gs_run.specs.World.{World, Sent, member, nobody, sent_by, is_newer}
-use Rattle.gs_run.specs.Why.{or_else, refused_if, at_node, drifts, is_due_at, is_stale, stale_place, stale_at, stale_of, why_sent, why_deliver, why}
+use Rattle.std.specs.Option.{option_or}
+use Rattle.gs_run.specs.Why.{refused_if, at_node, drifts, is_due_at, is_stale, stale_place, stale_at, stale_of, why_sent, why_deliver, why}
 use Rattle.gs_run.specs.declared.refused.Refused.{Refused}
 use Rattle.gs_run.specs.declared.refused.Refused.TheVariants.{Shape, End, Drift, TickDue, Early, Late}
 
 -- ---- where nothing is refused
 
-both_none : (a b : Option Refused) → or_else a b ≡ None → (a ≡ None) × (b ≡ None)
+both_none : (a b : Option Refused) → option_or a b ≡ None → (a ≡ None) × (b ≡ None)
 both_none None b e = (refl, e)
 both_none (Some r) b e = absurd (cc)
 
@@ -107,8 +108,8 @@ pub record MayHear (net : Net) (w : World) (from to seq i : ℕ) (s : Sent) : Ty
   pub node : to < net.nodes
   pub place : place_of net to from ≡ Some i
   pub sent : sent_by w from seq ≡ Some s
-  pub early : is_newer (member w to) i s ≡ true → s.quantum + net.soonest to from ≤ w.quanta
-  pub late : is_newer (member w to) i s ≡ true → w.quanta ≤ s.quantum + net.latest to from
+  pub early : is_newer (member w to) i s ≡ true → s.quantum + net.delay_min to from ≤ w.quanta
+  pub late : is_newer (member w to) i s ≡ true → w.quanta ≤ s.quantum + net.delay_max to from
 
 -- a test that fails beside one that passes
 other_fails : (b c : Bool) → b && c ≡ false → b ≡ true → c ≡ false

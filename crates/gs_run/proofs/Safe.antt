@@ -129,11 +129,11 @@ way_small net v x numbers next =
     let above = net.rate.accepted.above in
     let high = net.rate.accepted.high in
     let low : net.rate.lo ≤ 2 ^ 30 = omega (arith, above, high) in
-    let sum : net.rate.lo * net.soonest v x + net.rate.lo * (net.latest v x - net.soonest v x)
-    ≡ net.rate.lo * net.latest v x =
-    parts net.rate.lo (net.soonest v x) (net.latest v x) order in
-    let a : net.rate.lo * net.latest v x ≤ 2 ^ 30 * net.latest v x = mul-le-mul_right (net.latest v x) low in
-    let b : 2 ^ 30 * net.latest v x ≤ 2 ^ 30 * 2 ^ 16 = mul-le-mul_left (2 ^ 30) near in
+    let sum : net.rate.lo * net.delay_min v x + net.rate.lo * (net.delay_max v x - net.delay_min v x)
+    ≡ net.rate.lo * net.delay_max v x =
+    parts net.rate.lo (net.delay_min v x) (net.delay_max v x) order in
+    let a : net.rate.lo * net.delay_max v x ≤ 2 ^ 30 * net.delay_max v x = mul-le-mul_right (net.delay_max v x) low in
+    let b : 2 ^ 30 * net.delay_max v x ≤ 2 ^ 30 * 2 ^ 16 = mul-le-mul_left (2 ^ 30) near in
     omega (arith, sum, a, b)
   where
     parts : (lo a b : ℕ) → a ≤ b → lo * a + lo * (b - a) ≡ lo * b

@@ -12,12 +12,12 @@ pub record AreNumbers (net : Net) : Type 0 where
   pub tick : 1 ≤ net.tick
   pub every : 1 ≤ net.every
   pub both_ways : (v w : ℕ) → Adjacent net v w → Adjacent net w v
-  pub same_soonest : (v w : ℕ) → net.soonest v w ≡ net.soonest w v
-  pub same_latest : (v w : ℕ) → net.latest v w ≡ net.latest w v
+  pub same_delay_min : (v w : ℕ) → net.delay_min v w ≡ net.delay_min w v
+  pub same_delay_max : (v w : ℕ) → net.delay_max v w ≡ net.delay_max w v
   pub same_kappa : (v w : ℕ) → net.kappa v w ≡ net.kappa w v
-  pub delays : (v w : ℕ) → Adjacent net v w → net.soonest v w ≤ net.latest v w
-  pub in_age : (v w : ℕ) → Adjacent net v w → net.latest v w ≤ net.age
-  pub near : (v w : ℕ) → Adjacent net v w → net.latest v w ≤ 2 ^ 16
+  pub delays : (v w : ℕ) → Adjacent net v w → net.delay_min v w ≤ net.delay_max v w
+  pub in_age : (v w : ℕ) → Adjacent net v w → net.delay_max v w ≤ net.age
+  pub near : (v w : ℕ) → Adjacent net v w → net.delay_max v w ≤ 2 ^ 16
   pub margin : (v w : ℕ) → Adjacent net v w → 2 * delta_of net v w < net.kappa v w
   pub strong : 2 * r_of net.rate ≤ q_of net.rate
   pub widest : (v w : ℕ) → Adjacent net v w → spread_of net v w ≤ net.widest

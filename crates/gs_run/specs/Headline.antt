@@ -2,13 +2,10 @@
 -- `Plan` answer and the planner prints.
 use Rattle.std.specs.Prelude.{ℕ, ◌+◌, ◌<◌, ◌≤◌, List, take}
 use Rattle.gs_topo.specs.Graph.{Adjacent}
-use Rattle.gs_plan.specs.Bounds.{global_in, lambda_in, level_in, local_in, skew_in}
-use Rattle.gs_plan.specs.Numbers.{kappa_between}
-use Rattle.gs_plan.specs.Plans.{graph_of, text_of}
+use Rattle.gs_plan.specs.Plans.{bound_of, edge_bound_of, global_of, graph_of, kappa_of, lag_of, local_of, weight_of}
 use Rattle.gs_plan.specs.declared.plan.Plan.{Plan}
 use Rattle.gs_core.specs.declared.event.Event.{Event}
 use Rattle.gs_skew.specs.Skews.{global_skew, potential, skew_between}
-use Rattle.gs_plan.specs.Weights.{weight_in}
 use Rattle.gs_run.specs.Budget.{Budget, watched_at_start}
 use Rattle.gs_run.specs.Nets.{net_of}
 use Rattle.gs_run.specs.Run.{Allowed, run}
@@ -18,17 +15,16 @@ use Rattle.gs_run.specs.World.{World, clock_in, clocks_in, maximum_in, world_at_
 -- most G(s), and the ends of each edge e are within 2*s*kappa(e) + G(s), and so within local(s). No maximum is above all
 -- clocks, and none is behind a clock by more than lambda.
 pub record IsWithinPlan (p : Plan) (w : World) : Type 0 where
-  pub global : global_skew (clocks_in (net_of p) w) ≤ global_in (text_of p) (graph_of p)
-  pub potentials : (s : ℕ) → potential (weight_in (text_of p) (graph_of p)) (clocks_in (net_of p) w) s
-      ≤ level_in (text_of p) (graph_of p) s
+  pub global : global_skew (clocks_in (net_of p) w) ≤ global_of p
+  pub potentials : (s : ℕ) → potential (weight_of p) (clocks_in (net_of p) w) s ≤ bound_of p s
   pub edges : (s v x : ℕ) → Adjacent (graph_of p) v x → skew_between (clocks_in (net_of p) w) v x
-      ≤ skew_in (text_of p) (graph_of p) (kappa_between (text_of p) v x) s
+      ≤ edge_bound_of p (kappa_of p v x) s
   pub any_edge : (s v x : ℕ) → Adjacent (graph_of p) v x
-      → skew_between (clocks_in (net_of p) w) v x ≤ local_in (text_of p) (graph_of p) s
+      → skew_between (clocks_in (net_of p) w) v x ≤ local_of p s
   pub never_ahead : (v : ℕ) → v < (graph_of p).nodes
       → (x : ℕ) × (x < (graph_of p).nodes) × (maximum_in (net_of p) w v ≤ clock_in (net_of p) w x)
   pub lags : (v x : ℕ) → v < (graph_of p).nodes → x < (graph_of p).nodes
-      → clock_in (net_of p) w x ≤ maximum_in (net_of p) w v + lambda_in (text_of p) (graph_of p)
+      → clock_in (net_of p) w x ≤ maximum_in (net_of p) w v + lag_of p
 
 -- At every moment of these events the plan's bounds hold, and at the end of each quantum the offsets that nodes decide by
 -- are within the delta of their edge.

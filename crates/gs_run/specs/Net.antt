@@ -8,7 +8,7 @@ use Rattle.gs_units.specs.declared.params.NodeParams.{NodeParams}
 use Rattle.gs_units.specs.declared.rate.Rate.{Rate}
 
 -- The numbers of a plan as functions of nodes: an edge's numbers are those of its two ends, and each pair of nodes has a
--- weight. `tick` is the greatest gap of two ticks, `age` the greatest age of what a node goes by, `soonest` and `latest`
+-- weight. `tick` is the greatest gap of two ticks, `age` the greatest age of what a node goes by, `delay_min` and `delay_max`
 -- are the delays of an edge, all in quanta; `widest` is the greatest spread of an edge.
 pub record Net : Type 0 where
   pub cluster : ℕ
@@ -18,8 +18,8 @@ pub record Net : Type 0 where
   pub age : ℕ
   pub every : ℕ
   pub adjacent : ℕ → ℕ → Bool
-  pub soonest : ℕ → ℕ → ℕ
-  pub latest : ℕ → ℕ → ℕ
+  pub delay_min : ℕ → ℕ → ℕ
+  pub delay_max : ℕ → ℕ → ℕ
   pub kappa : ℕ → ℕ → ℕ
   pub weight : ℕ → ℕ → ℕ
   pub diameter : ℕ
@@ -31,15 +31,15 @@ Adjacent net v w = IsTrue (net.adjacent v w)
 
 -- how far the delays of an edge spread, in clock units
 abbrev pub spread_of : Net → ℕ → ℕ → ℕ
-spread_of net v w = delay_spread net.rate.lo (net.soonest v w) (net.latest v w)
+spread_of net v w = delay_spread net.rate.lo (net.delay_min v w) (net.delay_max v w)
 
 -- what a beacon's maximum is raised by for its way
 abbrev pub jump_of : Net → ℕ → ℕ → ℕ
-jump_of net v w = delay_jump net.rate.lo (net.soonest v w)
+jump_of net v w = delay_jump net.rate.lo (net.delay_min v w)
 
 -- what a beacon's clock is raised by for its way
 abbrev pub comp_of : Net → ℕ → ℕ → ℕ
-comp_of net v w = delay_comp net.rate.lo (net.soonest v w) (net.latest v w)
+comp_of net v w = delay_comp net.rate.lo (net.delay_min v w) (net.delay_max v w)
 
 -- how far an offset may be off at the end of a quantum that uses it
 abbrev pub delta_of : Net → ℕ → ℕ → ℕ

@@ -4,7 +4,7 @@ use Rattle.gs_topo.specs.Walks.{diameter_of}
 use Rattle.gs_units.specs.declared.rate.Rate.{Rate}
 use Rattle.gs_planfile.specs.declared.text.PlanText.{PlanText}
 use Rattle.gs_plan.specs.Bounds.{greatest_spread_in}
-use Rattle.gs_plan.specs.Edges.{edge_text}
+use Rattle.gs_plan.specs.Edges.{edge_given}
 use Rattle.gs_plan.specs.Numbers.{kappa_between}
 use Rattle.gs_plan.specs.Plans.{text_of, graph_of, rate_of}
 use Rattle.gs_plan.specs.declared.plan.Plan.{Plan}
@@ -21,8 +21,8 @@ net_in t g rate = record {
   age = t.age;
   every = t.every;
   adjacent = adjacent g;
-  soonest = λ v w. (edge_text t (v, w)).delay_min;
-  latest = λ v w. (edge_text t (v, w)).delay_max;
+  delay_min = λ v w. (edge_given t (v, w)).delay_min;
+  delay_max = λ v w. (edge_given t (v, w)).delay_max;
   kappa = kappa_between t;
   weight = weight_in t g;
   diameter = diameter_of g;

@@ -1,7 +1,7 @@
 -- What a plan tells its nodes and prints, in the words of its net.
 use Rattle.std.specs.Prelude.{◌≡◌, ℕ}
 use Rattle.gs_plan.specs.Bounds.{global_in, lambda_in, level_in}
-use Rattle.gs_plan.specs.Edges.{edge_text}
+use Rattle.gs_plan.specs.Edges.{edge_given}
 use Rattle.gs_plan.specs.Nodes.{params_in}
 use Rattle.gs_plan.specs.Numbers.{delta_in, kappa_between}
 use Rattle.gs_plan.specs.Plans.{graph_of, rate_of, text_of}
@@ -18,7 +18,7 @@ pub record HasPlanBounds (p : Plan) : Type 0 where
   pub global : skew_of (net_of p) ≡ global_in (text_of p) (graph_of p)
   pub levels : (s : ℕ) → level_of (net_of p) s ≡ level_in (text_of p) (graph_of p) s
   pub lag : lambda_of (net_of p) ≡ lambda_in (text_of p) (graph_of p)
-  pub budget : (v w : ℕ) → delta_of (net_of p) v w ≡ delta_in (text_of p) (edge_text (text_of p) (v, w))
+  pub budget : (v w : ℕ) → delta_of (net_of p) v w ≡ delta_in (text_of p) (edge_given (text_of p) (v, w))
   pub kappa : (v w : ℕ) → (net_of p).kappa v w ≡ kappa_between (text_of p) v w
 
 -- in every plan

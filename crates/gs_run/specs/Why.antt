@@ -1,5 +1,6 @@
 -- Why an event is not allowed: the first refusal, in the order of the public call.
 use Rattle.std.specs.Prelude.{ℕ, ◌+◌, ◌^◌, List, length, Bool, ◌==◌, ◌||◌, ◌&&◌, not, Option, Some, None, is_some, nat_lt, nat_le, position, slice_index, if◌then◌else◌}
+use Rattle.std.specs.Option.{option_or}
 use Rattle.gs_core.specs.declared.event.Event.{Event}
 use Rattle.gs_core.specs.declared.event.Event.TheVariants.{Quantum, Tick, Deliver}
 use Rattle.gs_run.specs.Net.{Net, place_of, neighbours}
@@ -7,11 +8,7 @@ use Rattle.gs_run.specs.World.{World, Member, Sent, member, sent_by, is_newer}
 use Rattle.gs_run.specs.declared.refused.Refused.{Refused}
 use Rattle.gs_run.specs.declared.refused.Refused.TheVariants.{Shape, End, Drift, TickDue, Stale, Unknown, Early, Late}
 
--- the first of two refusals
-abbrev pub or_else : Option Refused → Option Refused → Option Refused
-or_else None later = later
-or_else (Some r) later = Some r
-
+-- a refusal where its test holds
 abbrev pub refused_if : Bool → Refused → Option Refused
 refused_if test r = if test then Some r else None
 
@@ -49,18 +46,18 @@ stale_of net w (Some v) = stale_at net v (stale_place net w.quanta (member w v))
 -- rule 10
 abbrev pub why_quantum : Net → World → List ℕ → Option Refused
 why_quantum net w incs =
-    or_else (refused_if (not (length incs == net.nodes)) Shape)
-    (or_else (refused_if (nat_le (2 ^ 24) w.quanta) End)
-    (or_else (at_node Drift (position (drifts net) incs))
-    (or_else (at_node TickDue (position (is_due_at net w.quanta) w.members))
+    option_or (refused_if (not (length incs == net.nodes)) Shape)
+    (option_or (refused_if (nat_le (2 ^ 24) w.quanta) End)
+    (option_or (at_node Drift (position (drifts net) incs))
+    (option_or (at_node TickDue (position (is_due_at net w.quanta) w.members))
     (stale_of net w (position (λ m. is_some (stale_place net w.quanta m)) w.members)))))
 
 -- rule 12: a beacon that is newer than what was heard has to be of the right age
 abbrev pub why_sent : Net → World → ℕ → ℕ → ℕ → Option Sent → Option Refused
 why_sent net w from to i None = Some Unknown
 why_sent net w from to i (Some s) =
-    or_else (refused_if (is_newer (member w to) i s && nat_lt w.quanta (s.quantum + net.soonest to from)) Early)
-    (refused_if (is_newer (member w to) i s && nat_lt (s.quantum + net.latest to from) w.quanta) Late)
+    option_or (refused_if (is_newer (member w to) i s && nat_lt w.quanta (s.quantum + net.delay_min to from)) Early)
+    (refused_if (is_newer (member w to) i s && nat_lt (s.quantum + net.delay_max to from) w.quanta) Late)
 
 abbrev pub why_deliver : Net → World → ℕ → ℕ → ℕ → Option ℕ → Option Refused
 why_deliver net w from to seq None = Some Shape
@@ -71,4 +68,4 @@ abbrev pub why : Net → World → Event → Option Refused
 why net w (Quantum incs) = why_quantum net w incs
 why net w (Tick v) = refused_if (nat_le net.nodes v) Shape
 why net w (Deliver from to seq) =
-    or_else (refused_if (nat_le net.nodes to) Shape) (why_deliver net w from to seq (place_of net to from))
+    option_or (refused_if (nat_le net.nodes to) Shape) (why_deliver net w from to seq (place_of net to from))

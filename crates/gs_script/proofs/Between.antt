@@ -7,7 +7,7 @@ use Rattle.std.proofs.lemmas.Option.{get_or_from_slice_get}
 use Rattle.gs_topo.specs.Graph.{joins, number_of}
 use Rattle.gs_planfile.specs.declared.text.PlanText.{PlanText}
 use Rattle.gs_plan.specs.declared.edge.EdgeNumbers.{EdgeNumbers}
-use Rattle.gs_plan.specs.Edges.{edge_text}
+use Rattle.gs_plan.specs.Edges.{edge_given}
 use Rattle.gs_plan.specs.Numbers.{numbers_in, numbers_of}
 use Rattle.gs_plan.specs.Shapes.{graph_of_text}
 use Rattle.gs_plan.proofs.Chain.{place_found}
@@ -51,7 +51,7 @@ pub outside-edge : (t : PlanText) (a b d e : ℕ) (n : EdgeNumbers) → number_o
     → is_bad_delay n.delay_min n.delay_max d ≡ is_delay_outside t (One a) (One b) d
 outside-edge t a b d e n number at =
     let found : list_any (λ x. joins x a b) (graph_of_text t).edges ≡ true = sym (place_found (λ x. joins x a b) (graph_of_text t).edges) ∙ ap (λ (o : Option ℕ). is_some o) number in
-    let here : n ≡ numbers_in t (edge_text t (a, b)) =
+    let here : n ≡ numbers_in t (edge_given t (a, b)) =
     sym (get_or_from_slice_get (numbers_of t (graph_of_text t)) e n n at) ∙ (numbers_at t (graph_of_text t) a b e n number).1 in
     ap (λ (x : EdgeNumbers). is_bad_delay x.delay_min x.delay_max d) here ∙ rw (any-meets a b (graph_of_text t).edges, any-joined t a b d (graph_of_text t).edges, found) refl
 

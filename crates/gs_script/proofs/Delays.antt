@@ -7,7 +7,7 @@ use Rattle.gs_topo.proofs.Ascending.{joins-cases}
 use Rattle.gs_topo.proofs.Members.{list_any-from_member, member-from_list_any}
 use Rattle.gs_planfile.specs.declared.text.PlanText.{PlanText}
 use Rattle.gs_plan.specs.Accepted.{IsAccepted, IsFine}
-use Rattle.gs_plan.specs.Edges.{edge_text}
+use Rattle.gs_plan.specs.Edges.{edge_given}
 use Rattle.gs_plan.specs.Shapes.{graph_of_text}
 use Rattle.gs_plan.proofs.Accepting.{inside}
 use Rattle.gs_plan.proofs.Linking.{fine_at, joined_text}
@@ -43,12 +43,12 @@ meets_joined v w a b e join match = elim (joins-cases e a b join) [
 
 -- the delay of a record that matches two neighbours is in the range of their edge
 pub matched_in_range : (t : PlanText) (v w : Who) (d a b : ℕ) → is_delay_outside t v w d ≡ false → Adjacent (graph_of_text t) a b → is_for v a && is_for w b ≡ true
-    → (least_delay (edge_text t (a, b)).delay_min ≤ d) × (d ≤ (edge_text t (a, b)).delay_max)
+    → (least_delay (edge_given t (a, b)).delay_min ≤ d) × (d ≤ (edge_given t (a, b)).delay_max)
 matched_in_range t v w d a b h next match =
     let m = member-from_list_any (λ e. joins e a b) (graph_of_text t).edges next in
     let good : is_bad_over t m.0 d ≡ false = met_in_range t v w d m.0 h m.1 (meets_joined v w a b m.0 m.2 match) in
     let here : is_bad_over t (a, b) d ≡ false = rw (joined_text t m.0 a b m.2) at good in
-    inside (least_delay (edge_text t (a, b)).delay_min) (edge_text t (a, b)).delay_max d here
+    inside (least_delay (edge_given t (a, b)).delay_min) (edge_given t (a, b)).delay_max d here
 
 -- a delay in range is small
 pub delay_small : (t : PlanText) (v w : Who) (d : ℕ) → IsAccepted t (graph_of_text t) → is_delay_outside t v w d ≡ false → d ≤ 65536
@@ -56,7 +56,7 @@ delay_small t v w d is h = pick (list_any (meets v w) (graph_of_text t).edges) r
   pick : (b : Bool) → list_any (meets v w) (graph_of_text t).edges ≡ b → d ≤ 65536
   pick true some =
       let m = member-from_list_any (meets v w) (graph_of_text t).edges some in
-      let range = inside (least_delay (edge_text t m.0).delay_min) (edge_text t m.0).delay_max d (met_in_range t v w d m.0 h m.1 m.2) in
+      let range = inside (least_delay (edge_given t m.0).delay_min) (edge_given t m.0).delay_max d (met_in_range t v w d m.0 h m.1 m.2) in
       let near = (fine_at t (graph_of_text t) m.0 is m.1).near in
       omega (arith, range, near)
   pick false none =
@@ -66,8 +66,8 @@ delay_small t v w d is h = pick (list_any (meets v w) (graph_of_text t).edges) r
       omega (arith, range, near)
 
 -- the least delay is in the range of an edge
-pub least_in_range : (t : PlanText) (e : ℕ × ℕ) → IsFine t (edge_text t e)
-    → (least_delay (edge_text t e).delay_min ≤ least_delay (edge_text t e).delay_min) × (least_delay (edge_text t e).delay_min ≤ (edge_text t e).delay_max)
+pub least_in_range : (t : PlanText) (e : ℕ × ℕ) → IsFine t (edge_given t e)
+    → (least_delay (edge_given t e).delay_min ≤ least_delay (edge_given t e).delay_min) × (least_delay (edge_given t e).delay_min ≤ (edge_given t e).delay_max)
 least_in_range t e fine =
     let ordered = fine.delays in
     let some = fine.some in

@@ -6,7 +6,7 @@ use Rattle.std.proofs.lemmas.Option.{slice_get-get_or, slice_get-map, slice_get_
 use Rattle.std.proofs.lemmas.List.{length-map, map-append, take_more, take_all}
 use Rattle.gs_planfile.specs.declared.text.PlanText.{PlanText}
 use Rattle.gs_plan.specs.declared.edge.EdgeNumbers.{EdgeNumbers}
-use Rattle.gs_plan.specs.Edges.{edge_text, edge_texts}
+use Rattle.gs_plan.specs.Edges.{edge_given, edges_given}
 use Rattle.gs_plan.specs.Numbers.{numbers_in, numbers_of}
 use Rattle.gs_plan.specs.Shapes.{graph_of_text}
 use Rattle.gs_topo.specs.Graph.{Graph}
@@ -16,11 +16,11 @@ use Rattle.gs_script.specs.Checks.{is_bad_delay, is_bad_over, is_delay_outside, 
 use Rattle.gs_script.specs.inside.Kept.{link_of, links_of}
 
 -- the numbers of an edge, by its place
-pub numbers_at_place : (t : PlanText) (g : Graph) (e : ℕ) (edge : ℕ × ℕ) (n : EdgeNumbers) → slice_get (numbers_of t g) e ≡ Some n → slice_get g.edges e ≡ Some edge → n ≡ numbers_in t (edge_text t edge)
+pub numbers_at_place : (t : PlanText) (g : Graph) (e : ℕ) (edge : ℕ × ℕ) (n : EdgeNumbers) → slice_get (numbers_of t g) e ≡ Some n → slice_get g.edges e ≡ Some edge → n ≡ numbers_in t (edge_given t edge)
 numbers_at_place t g e edge n numbers at =
-    let first : slice_get (edge_texts t g) e ≡ Some (edge_text t edge) = rw (slice_get-map (edge_text t) g.edges e, at) refl in
-    let second : slice_get (numbers_of t g) e ≡ Some (numbers_in t (edge_text t edge)) = rw (slice_get-map (numbers_in t) (edge_texts t g) e, first) refl in
-    same_Some n (numbers_in t (edge_text t edge)) (sym numbers ∙ second)
+    let first : slice_get (edges_given t g) e ≡ Some (edge_given t edge) = rw (slice_get-map (edge_given t) g.edges e, at) refl in
+    let second : slice_get (numbers_of t g) e ≡ Some (numbers_in t (edge_given t edge)) = rw (slice_get-map (numbers_in t) (edges_given t g) e, first) refl in
+    same_Some n (numbers_in t (edge_given t edge)) (sym numbers ∙ second)
 
 pub ruleset links = (numbers_at_place, slice_get-get_or, slice_get_within, take_more, take_all)
 

@@ -12,7 +12,7 @@ use Rattle.gs_topo.proofs.Members.{Contains-filter, Contains-range}
 use Rattle.gs_topo.proofs.Nearer.{neighbour_inside}
 use Rattle.gs_planfile.specs.declared.text.PlanText.{PlanText}
 use Rattle.gs_plan.specs.declared.edge.EdgeNumbers.{EdgeNumbers}
-use Rattle.gs_plan.specs.Edges.{edge_text}
+use Rattle.gs_plan.specs.Edges.{edge_given}
 use Rattle.gs_plan.specs.Numbers.{numbers_in, numbers_of}
 use Rattle.gs_plan.specs.Shapes.{graph_of_text}
 use Rattle.gs_plan.proofs.Linking.{has_number, numbers_at}
@@ -92,7 +92,7 @@ nodes-more t lines n nodes s has here = record {
 pub least_by_number : (t : PlanText) (v w e : ℕ) (n : EdgeNumbers) → number_of (graph_of_text t) v w ≡ Some e → slice_get (numbers_of t (graph_of_text t)) e ≡ Some n → max n.delay_min 1 ≡ least_between t v w
 least_by_number t v w e n number at =
     let found = numbers_at t (graph_of_text t) v w e n number in
-    let here : n ≡ numbers_in t (edge_text t (v, w)) = sym (get_or_from_slice_get (numbers_of t (graph_of_text t)) e n n at) ∙ found.1 in
+    let here : n ≡ numbers_in t (edge_given t (v, w)) = sym (get_or_from_slice_get (numbers_of t (graph_of_text t)) e n n at) ∙ found.1 in
     ap (λ (x : EdgeNumbers). max x.delay_min 1) here
 
 pub ruleset ways_from = (ways-none, ways-more, neighbour_inside)

@@ -8,7 +8,7 @@ use Rattle.gs_units.specs.declared.rate.Rate.{Rate}
 use Rattle.gs_topo.specs.Graph.{Adjacent}
 use Rattle.gs_planfile.specs.declared.text.PlanText.{PlanText}
 use Rattle.gs_plan.specs.Accepted.{IsAccepted}
-use Rattle.gs_plan.specs.Edges.{edge_text}
+use Rattle.gs_plan.specs.Edges.{edge_given}
 use Rattle.gs_plan.specs.Plans.{text_of}
 use Rattle.gs_plan.specs.Shapes.{graph_of_text}
 use Rattle.gs_plan.specs.declared.plan.Plan.{Plan}
@@ -56,9 +56,9 @@ tick_fits t v (sets.Delay from to quanta) fits = tt
 tick_fits t v (sets.Loss from to is_lost) fits = tt
 
 delay_fits : (t : PlanText) (v w : ℕ) → Adjacent (graph_of_text t) v w → (s : Setting) → SettingFits t s
-    → IfSome (delay_said v w s) (λ y. (least_delay (edge_text t (v, w)).delay_min ≤ y) × (y ≤ (edge_text t (v, w)).delay_max))
+    → IfSome (delay_said v w s) (λ y. (least_delay (edge_given t (v, w)).delay_min ≤ y) × (y ≤ (edge_given t (v, w)).delay_max))
 delay_fits t v w next (sets.Delay from to quanta) fits =
-    if_said (is_for from v && is_for to w) quanta (λ y. (least_delay (edge_text t (v, w)).delay_min ≤ y) × (y ≤ (edge_text t (v, w)).delay_max))
+    if_said (is_for from v && is_for to w) quanta (λ y. (least_delay (edge_given t (v, w)).delay_min ≤ y) × (y ≤ (edge_given t (v, w)).delay_max))
     (λ is. matched_in_range t from to quanta v w fits next is)
 delay_fits t v w next (sets.Drift node inc) fits = tt
 delay_fits t v w next (sets.Tick node gap) fits = tt
@@ -92,9 +92,9 @@ script_within t q ls bounds all small =
     let gap : (v i : ℕ) → (1 ≤ unwrap_or (last_said (gap_said v) i ls) t.tick) × (unwrap_or (last_said (gap_said v) i ls) t.tick ≤ t.tick) =
     λ v i. last_within (gap_said v) i (SettingFits t) (λ y. (1 ≤ y) × (y ≤ t.tick)) t.tick (bounds.accepted.tick, omega arith) (tick_fits t v) ls all in
     let delay : (v w i : ℕ) → Adjacent (graph_of_text t) v w
-    → (least_delay (edge_text t (v, w)).delay_min ≤ unwrap_or (last_said (delay_said v w) i ls) (least_delay (edge_text t (v, w)).delay_min))
-    × (unwrap_or (last_said (delay_said v w) i ls) (least_delay (edge_text t (v, w)).delay_min) ≤ (edge_text t (v, w)).delay_max) =
-    λ v w i next. last_within (delay_said v w) i (SettingFits t) (λ y. (least_delay (edge_text t (v, w)).delay_min ≤ y) × (y ≤ (edge_text t (v, w)).delay_max)) (least_delay (edge_text t (v, w)).delay_min)
+    → (least_delay (edge_given t (v, w)).delay_min ≤ unwrap_or (last_said (delay_said v w) i ls) (least_delay (edge_given t (v, w)).delay_min))
+    × (unwrap_or (last_said (delay_said v w) i ls) (least_delay (edge_given t (v, w)).delay_min) ≤ (edge_given t (v, w)).delay_max) =
+    λ v w i next. last_within (delay_said v w) i (SettingFits t) (λ y. (least_delay (edge_given t (v, w)).delay_min ≤ y) × (y ≤ (edge_given t (v, w)).delay_max)) (least_delay (edge_given t (v, w)).delay_min)
     (least_in_range t (v, w) (fine_between t (graph_of_text t) v w bounds.accepted next)) (delay_fits t v w next) ls all in
     record {
       inc_low = λ v i. (inc v i).0;

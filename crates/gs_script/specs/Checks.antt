@@ -4,7 +4,7 @@ use Rattle.std.specs.Prelude.{Bool, true, false, Result, Ok, Err}
 use Rattle.std.specs.List.{list_any}
 use Rattle.gs_topo.specs.Graph.{adjacent}
 use Rattle.gs_planfile.specs.declared.text.PlanText.{PlanText}
-use Rattle.gs_plan.specs.Edges.{edge_text}
+use Rattle.gs_plan.specs.Edges.{edge_given}
 use Rattle.gs_plan.specs.Faults.{is_outside}
 use Rattle.gs_plan.specs.Shapes.{graph_of_text}
 use Rattle.gs_script.specs.declared.fault.ScriptFault.{ScriptFault}
@@ -62,7 +62,7 @@ is_bad_delay delay_min delay_max d = is_outside (least_delay delay_min) delay_ma
 
 -- it is out of the range of this edge of the plan
 abbrev pub is_bad_over : PlanText → ℕ × ℕ → ℕ → Bool
-is_bad_over t e d = is_bad_delay (edge_text t e).delay_min (edge_text t e).delay_max d
+is_bad_over t e d = is_bad_delay (edge_given t e).delay_min (edge_given t e).delay_max d
 
 -- a delay is out of the range of some edge that is met or, where none is met, of the plan's own
 abbrev pub is_delay_outside : PlanText → Who → Who → ℕ → Bool

@@ -2,7 +2,7 @@
 use Rattle.std.specs.Prelude.{ℕ, ◌+◌, ◌*◌, ◌≤◌, max, length, unwrap_or, List, Bool, false}
 use Rattle.gs_topo.specs.Graph.{Adjacent}
 use Rattle.gs_planfile.specs.declared.text.PlanText.{PlanText}
-use Rattle.gs_plan.specs.Edges.{edge_text}
+use Rattle.gs_plan.specs.Edges.{edge_given}
 use Rattle.gs_plan.specs.Shapes.{graph_of_text}
 use Rattle.gs_script.specs.declared.line.Line.{Line}
 use Rattle.gs_script.specs.Lines.{delay_said, gap_said, inc_said, last_said, loss_said}
@@ -28,7 +28,7 @@ gap_of s v t = unwrap_or (last_said (gap_said v) t s.lines) s.text.tick
 
 -- the delay of a beacon that v sends to w in quantum t
 abbrev pub delay_of : Said → ℕ → ℕ → ℕ → ℕ
-delay_of s v w t = unwrap_or (last_said (delay_said v w) t s.lines) (least_delay (edge_text s.text (v, w)).delay_min)
+delay_of s v w t = unwrap_or (last_said (delay_said v w) t s.lines) (least_delay (edge_given s.text (v, w)).delay_min)
 
 -- whether it is lost
 abbrev pub is_lost : Said → ℕ → ℕ → ℕ → Bool
@@ -41,8 +41,8 @@ pub record IsScript (s : Said) : Type 0 where
   pub gap_low : (v t : ℕ) → 1 ≤ gap_of s v t
   pub gap_high : (v t : ℕ) → gap_of s v t ≤ s.text.tick
   pub delay_low : (v w t : ℕ) → Adjacent (graph_of_text s.text) v w
-      → least_delay (edge_text s.text (v, w)).delay_min ≤ delay_of s v w t
+      → least_delay (edge_given s.text (v, w)).delay_min ≤ delay_of s v w t
   pub delay_high : (v w t : ℕ) → Adjacent (graph_of_text s.text) v w
-      → delay_of s v w t ≤ (edge_text s.text (v, w)).delay_max
+      → delay_of s v w t ≤ (edge_given s.text (v, w)).delay_max
   pub quanta : s.quanta ≤ 1048576
   pub work : s.quanta * ((graph_of_text s.text).nodes + length (graph_of_text s.text).edges) ≤ 67108864

@@ -1,6 +1,6 @@
 ghost use Rattle.std.specs.Prelude.{◌≡◌, ◌<◌, ◌≤◌, ℕ, All, IfOk, List, false, is_some, length, option_and_then};
 ghost use Rattle.gs_topo.specs.Graph.{Adjacent};
-ghost use Rattle.gs_plan.specs.Edges.{edge_text};
+ghost use Rattle.gs_plan.specs.Edges.{edge_given};
 ghost use Rattle.gs_plan.specs.Plans.{text_of};
 ghost use Rattle.gs_plan.specs.Shapes.{graph_of_text};
 ghost use Rattle.gs_script.specs.Checks.{is_large};
@@ -166,8 +166,8 @@ impl Script {
         requires receiver { to < (graph_of_text self.now.text).nodes }
         requires neighbours { Adjacent (graph_of_text self.now.text) from to }
         ensures value { Lasts (delay_of self.now from to) t result.until result.value }
-        ensures low { least_delay (edge_text self.now.text (from, to)).delay_min ≤ result.value }
-        ensures high { result.value ≤ (edge_text self.now.text (from, to)).delay_max }
+        ensures low { least_delay (edge_given self.now.text (from, to)).delay_min ≤ result.value }
+        ensures high { result.value ≤ (edge_given self.now.text (from, to)).delay_max }
     {
         let way = self.way(from, to);
         let sent = &self.node(from).sent;
@@ -201,8 +201,8 @@ impl Script {
         requires neighbours { Adjacent (graph_of_text self.now.text) from to }
         ensures delay { Lasts (delay_of self.now from to) t result.until result.delay }
         ensures lost { Lasts (is_lost self.now from to) t result.until result.is_lost }
-        ensures low { least_delay (edge_text self.now.text (from, to)).delay_min ≤ result.delay }
-        ensures high { result.delay ≤ (edge_text self.now.text (from, to)).delay_max }
+        ensures low { least_delay (edge_given self.now.text (from, to)).delay_min ≤ result.delay }
+        ensures high { result.delay ≤ (edge_given self.now.text (from, to)).delay_max }
     {
         let delay = self.delay_run(from, to, t);
         let loss = self.loss_run(from, to, t);
@@ -219,8 +219,8 @@ impl Script {
         requires receiver { to < (graph_of_text self.now.text).nodes }
         requires neighbours { Adjacent (graph_of_text self.now.text) from to }
         ensures value { result ≡ delay_of self.now from to t }
-        ensures low { least_delay (edge_text self.now.text (from, to)).delay_min ≤ result }
-        ensures high { result ≤ (edge_text self.now.text (from, to)).delay_max }
+        ensures low { least_delay (edge_given self.now.text (from, to)).delay_min ≤ result }
+        ensures high { result ≤ (edge_given self.now.text (from, to)).delay_max }
     {
         self.delay_run(from, to, t).value
     }

@@ -54,7 +54,7 @@ longer m t q soonest delay short after some low = omega (arith, short, after, so
 pub window_late : (net : Net) (c : Course) (v m t : ℕ) → AreNumbers net → IsCourse net c → IsWindow net m t → AreLate net c v (λ x. m) t
 window_late net c v m t numbers course window x q has after =
     let near = numbers.both_ways v x (has_filter (net.adjacent v) (nodes_of net) x has).1 in
-    longer m t q (net.soonest x v) (c.delay x v q) (window.short x v near) after (course.delay_some x v q near) (course.delay_low x v q near)
+    longer m t q (net.delay_min x v) (c.delay x v q) (window.short x v near) after (course.delay_some x v q near) (course.delay_low x v q near)
 
 pub world_agrees : (net : Net) (c : Course) (t : ℕ) → IsCalendar net c t (world_of net c t)
 world_agrees net c t = run_agrees net c (start_of net) (start_is_calendar net c (slice_index (map (λ v. 0) (nodes_of net))) (λ v. 0)) t

@@ -196,7 +196,7 @@ seat_put net c x v m t place by s old new numbers course hx near window next kep
     let adjacent = (neighbour_is net x v near).1 in
     let among : Has x (neighbours net v) = is_neighbour net v x hx (numbers.both_ways x v adjacent) in
     let after : m < s.quantum = (let a = next.after in let low = (is.within x).0 in omega (arith, a, low)) in
-    let later = longer m t s.quantum (net.soonest x v) (c.delay x v s.quantum) (window.short x v adjacent) after (course.delay_some x v s.quantum adjacent) (course.delay_low x v s.quantum adjacent) in
+    let later = longer m t s.quantum (net.delay_min x v) (c.delay x v s.quantum) (window.short x v adjacent) after (course.delay_some x v s.quantum adjacent) (course.delay_low x v s.quantum adjacent) in
     let ks : List Key = keys old.waiting in
     let same : keys (put_letter b old.waiting) ≡ insert_key key_cmp ks (key_of c x v s.quantum s.beacon.seq) =
     keys_put b old.waiting (letter_is_new net c x v m t place by s old hx next is) ∙ ap (insert_key key_cmp ks) (key_is net c x v t place s hx next.was) in

@@ -22,7 +22,7 @@ handed by x q = λ y. if y == x then q else by y
 -- that is sent in it is due in it.
 pub record IsWindow (net : Net) (m t : ℕ) : Type 0 where
   pub few : t ≤ m + 64
-  pub short : (v w : ℕ) → Adjacent net v w → t ≤ m + max 1 (net.soonest v w)
+  pub short : (v w : ℕ) → Adjacent net v w → t ≤ m + max 1 (net.delay_min v w)
 
 -- v sends nothing after quantum a and before quantum b
 abbrev pub SendsNone : Net → Course → ℕ → ℕ → ℕ → Type 0

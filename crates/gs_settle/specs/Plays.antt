@@ -1,11 +1,9 @@
 -- A play from unequal clocks: where it starts, and how long each level was above its bound.
 use Rattle.std.specs.Prelude.{ℕ, zero, suc, ◌+◌, ◌-◌, ◌*◌, ◌/◌, ◌<◌, ◌≤◌, max, nat_lt, List, map, slice_index_or, Option, Some, None, IfSome, if◌then◌else◌}
 use Rattle.std.specs.List.{range_with_len}
-use Rattle.gs_plan.specs.Bounds.{level_in}
-use Rattle.gs_plan.specs.Plans.{graph_of, text_of}
+use Rattle.gs_plan.specs.Plans.{bound_of, graph_of, text_of, weight_of}
 use Rattle.gs_plan.specs.declared.plan.Plan.{Plan}
 use Rattle.gs_skew.specs.Skews.{potential}
-use Rattle.gs_plan.specs.Weights.{weight_in}
 use Rattle.gs_script.specs.Script.{Said}
 use Rattle.gs_run.specs.Nets.{net_of}
 use Rattle.gs_run.specs.RunRows.{fast_of}
@@ -33,7 +31,7 @@ last_above f bound (suc t) = if nat_lt bound (f (suc t)) then Some (suc t) else 
 -- the greatest of the quanta 0 to t at whose end the potential of level s is above its bound
 abbrev pub last_of_level : Plan → List Row → ℕ → ℕ → Option ℕ
 last_of_level p rows t s =
-    last_above (λ u. potential (weight_in (text_of p) (graph_of p)) (row_at rows u).clocks s) (level_in (text_of p) (graph_of p) s) t
+    last_above (λ u. potential (weight_of p) (row_at rows u).clocks s) (bound_of p s) t
 
 -- that of each level
 abbrev pub last_upto : Plan → List Row → ℕ → List (Option ℕ)

@@ -5,9 +5,9 @@ use Rattle.std.proofs.lemmas.Bool.{cases_lt, le-ltb}
 use Rattle.std.proofs.lemmas.List.{get_or_default, take_more}
 use Rattle.std.proofs.lemmas.List.Elements.{All-head, All-push, All-tail, Contains-append_left, Contains-push}
 use Rattle.gs_topo.specs.Graph.{Graph}
-use Rattle.gs_topo.specs.Walks.{IsGraph}
+use Rattle.gs_topo.specs.Walks.{IsTopology}
 use Rattle.gs_skew.specs.Ranges.{AreEnds}
-use Rattle.gs_skew.specs.Skews.{ArePotentials, beyond, edge_skew, global_skew, greatest_over, lead, near_skew, pairs_of, potential}
+use Rattle.gs_skew.specs.Skews.{ArePotentials, beyond, edge_skew, global_skew, greatest_over, lead, neighbour_skew, pairs_of, potential}
 
 -- the greatest of two lists
 pub greatest_append : {X : Type 0} (f : X → ℕ) (xs ys : List X) → greatest_over f (xs ++ ys) ≡ max (greatest_over f xs) (greatest_over f ys)
@@ -123,7 +123,7 @@ potentials_are weight clocks =
     record { first = omega (arith, above, least); within = below }
 
 -- no edge has more than the global skew
-pub near_within : (edges : List (ℕ × ℕ)) (clocks : List ℕ) → All (λ e. e.0 < length clocks) edges → All (λ e. e.1 < length clocks) edges → near_skew edges clocks ≤ global_skew clocks
+pub near_within : (edges : List (ℕ × ℕ)) (clocks : List ℕ) → All (λ e. e.0 < length clocks) edges → All (λ e. e.1 < length clocks) edges → neighbour_skew edges clocks ≤ global_skew clocks
 near_within edges clocks lows highs = greatest_at_most (edge_skew clocks) edges (global_skew clocks) (λ k d h.
     let e : ℕ × ℕ = get_or edges k d in
     let there = pair_at_most (λ p. lead clocks p.0 p.1) (length clocks) e.0 e.1 (lows k d h) (highs k d h) in
@@ -131,18 +131,18 @@ near_within edges clocks lows highs = greatest_at_most (edge_skew clocks) edges 
     omega (arith, there, back))
 
 -- the ends of the edges of a graph with a clock for each node
-pub ends_have_clocks : (g : Graph) (clocks : List ℕ) → IsGraph g → length clocks ≡ g.nodes → All (λ e. e.0 < length clocks) g.edges × All (λ e. e.1 < length clocks) g.edges
+pub ends_have_clocks : (g : Graph) (clocks : List ℕ) → IsTopology g → length clocks ≡ g.nodes → All (λ e. e.0 < length clocks) g.edges × All (λ e. e.1 < length clocks) g.edges
 ends_have_clocks g clocks is count = (
   λ k d h. let up = is.upright k d h in let below = is.below k d h in omega (arith, up, below, count),
   λ k d h. let below = is.below k d h in omega (arith, below, count),
 )
 
 -- no row with a small global skew has a greater neighbour skew
-pub no_near_above : (g : Graph) (clocks : List ℕ) (m : ℕ) → IsGraph g → length clocks ≡ g.nodes → global_skew clocks ≤ m → nat_lt m (near_skew g.edges clocks) ≡ false
+pub no_near_above : (g : Graph) (clocks : List ℕ) (m : ℕ) → IsTopology g → length clocks ≡ g.nodes → global_skew clocks ≤ m → nat_lt m (neighbour_skew g.edges clocks) ≡ false
 no_near_above g clocks m is count small =
     let ends = ends_have_clocks g clocks is count in
     let within = near_within g.edges clocks ends.0 ends.1 in
-    le-ltb m (near_skew g.edges clocks) (omega (arith, within, small))
+    le-ltb m (neighbour_skew g.edges clocks) (omega (arith, within, small))
 
 -- the ends of one clock, and of one more
 pub ends_of_one : (clock : ℕ) → AreEnds (clock ∷ []) clock clock

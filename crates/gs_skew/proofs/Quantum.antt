@@ -2,7 +2,7 @@
 use Rattle.std.proofs.Common.{◌≡◌, ◌≢◌, ℕ, ◌+◌, ◌<◌, ◌≤◌, inl, inr, arith, ap, sym, ◌∙◌}
 use Rattle.std.proofs.lemmas.Bool.{cases_lt}
 use Rattle.gs_topo.specs.Weights.{Weighs}
-use Rattle.gs_skew.specs.Conditions.{IsAhead, IsBehind}
+use Rattle.gs_skew.specs.Conditions.{MeetsSlowCondition, MeetsFastCondition}
 use Rattle.gs_skew.proofs.Extremes.{greatest_below}
 
 -- no node is ahead of v by more than its weight and x
@@ -15,7 +15,7 @@ Reaches n weight clock w c x = (u : ℕ) → u < n → c ≤ clock u + weight w 
 
 -- the node that is farthest ahead of v is in the slow condition
 farthest_is_ahead : (n : ℕ) (adj : ℕ → ℕ → Type 0) (k weight : ℕ → ℕ → ℕ) (clock : ℕ → ℕ) (v w : ℕ) → Weighs n adj k weight → v < n → w < n
-    → ((u : ℕ) → u < n → clock u + weight v w ≤ clock w + weight v u) → v ≢ w → IsAhead n adj k clock w
+    → ((u : ℕ) → u < n → clock u + weight v w ≤ clock w + weight v u) → v ≢ w → MeetsSlowCondition n adj k clock w
 farthest_is_ahead n adj k weight clock v w weighs hv hw most other =
     let t = weighs.towards v w hv hw other in
     record {
@@ -25,7 +25,7 @@ farthest_is_ahead n adj k weight clock v w weighs hv hw most other =
 
 -- in one quantum the lead over v grows by at most hi less the growth of v
 pub lead_grows : (n : ℕ) (adj : ℕ → ℕ → Type 0) (k weight : ℕ → ℕ → ℕ) (old new : ℕ → ℕ) (hi v x y : ℕ) → Weighs n adj k weight → v < n
-    → ((w : ℕ) → w < n → IsAhead n adj k new w → new w ≤ old w + hi)
+    → ((w : ℕ) → w < n → MeetsSlowCondition n adj k new w → new w ≤ old w + hi)
     → Leads n weight old v x → x + hi + old v ≤ y + new v → Leads n weight new v y
 lead_grows n adj k weight old new hi v x y weighs hv slow leads room u hu =
     let best = greatest_below n new (λ z. weight v z) (omega arith) in
@@ -44,7 +44,7 @@ lead_grows n adj k weight old new hi v x y weighs hv slow leads room u hu =
 
 -- the node that lags most behind w is in the fast condition
 slowest_is_behind : (n : ℕ) (adj : ℕ → ℕ → Type 0) (k weight : ℕ → ℕ → ℕ) (clock : ℕ → ℕ) (w u : ℕ) → Weighs n adj k weight → w < n → u < n
-    → ((z : ℕ) → z < n → clock u + weight w u ≤ clock z + weight w z) → w ≢ u → IsBehind n adj k clock u
+    → ((z : ℕ) → z < n → clock u + weight w u ≤ clock z + weight w z) → w ≢ u → MeetsFastCondition n adj k clock u
 slowest_is_behind n adj k weight clock w u weighs hw hu least other =
     let t = weighs.towards w u hw hu other in
     record {
@@ -55,7 +55,7 @@ slowest_is_behind n adj k weight clock w u weighs hw hu least other =
 -- in one quantum what is missing falls by q, down to nothing
 pub reach_grows : (n : ℕ) (adj : ℕ → ℕ → Type 0) (k weight : ℕ → ℕ → ℕ) (old new : ℕ → ℕ) (lo q w c x y : ℕ) → Weighs n adj k weight → w < n
     → ((u : ℕ) → u < n → old u + lo ≤ new u)
-    → ((u : ℕ) → u < n → IsBehind n adj k new u → old u + lo + q ≤ new u)
+    → ((u : ℕ) → u < n → MeetsFastCondition n adj k new u → old u + lo + q ≤ new u)
     → c ≤ old w → Reaches n weight old w c x → x ≤ y + q → Reaches n weight new w (c + lo) y
 reach_grows n adj k weight old new lo q w c x y weighs hw grows fast reached reaches room u hu =
     let best = greatest_below n (λ z. 0) (λ z. new z + weight w z) (omega arith) in

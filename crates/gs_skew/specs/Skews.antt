@@ -28,8 +28,8 @@ abbrev pub edge_skew : List ℕ → ℕ × ℕ → ℕ
 edge_skew clocks e = skew_between clocks e.0 e.1
 
 -- the greatest difference at one of these edges
-abbrev pub near_skew : List (ℕ × ℕ) → List ℕ → ℕ
-near_skew edges clocks = greatest_over (edge_skew clocks) edges
+abbrev pub neighbour_skew : List (ℕ × ℕ) → List ℕ → ℕ
+neighbour_skew edges clocks = greatest_over (edge_skew clocks) edges
 
 -- how far w is ahead of v beyond 2s times their weight, 0 where it is not
 abbrev pub beyond : (ℕ → ℕ → ℕ) → List ℕ → ℕ → ℕ → ℕ → ℕ

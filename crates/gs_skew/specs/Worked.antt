@@ -1,6 +1,6 @@
 -- A network that meets the premises of the laws of the levels, with a node in the fast condition.
 use Rattle.std.specs.Prelude.{ℕ, ◌==◌, not, if◌then◌else◌, Bool, IsTrue}
-use Rattle.gs_skew.specs.Conditions.{IsBehind}
+use Rattle.gs_skew.specs.Conditions.{MeetsFastCondition}
 use Rattle.gs_skew.specs.Laws.{IsSteeredNetwork}
 
 -- two nodes with an edge of kappa 1
@@ -18,4 +18,4 @@ two_rows t v = if t == 0 then 0 else if v == 0 then 2 else 3
 -- level 1.
 pub record IsWorkedNetwork : Type 0 where
   pub network : IsSteeredNetwork 2 1 two_apart (λ v w. 1) one_between two_rows 1 1 1 1
-  pub behind : IsBehind 2 (λ a b. IsTrue (two_apart a b)) (λ a b. 1) (two_rows 1) 0
+  pub behind : MeetsFastCondition 2 (λ a b. IsTrue (two_apart a b)) (λ a b. 1) (two_rows 1) 0

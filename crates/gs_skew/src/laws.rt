@@ -16,7 +16,7 @@ pub fn levels_keep_bounds()
 {}
 
 /// Some network meets the premises of that law, and has a node in the fast condition.
-pub fn levels_have_a_network()
+pub fn premises_can_be_met()
     ensures { IsWorkedNetwork }
 {}
 

@@ -2,9 +2,9 @@
 //! steered by the fast and slow conditions. Numbers and lists of clocks alone, without a plan or a node.
 #![tactic(auto)]
 
-pub use laws::{levels_have_a_network, levels_keep_bounds, potentials_are_skews};
+pub use laws::{levels_keep_bounds, potentials_are_skews, premises_can_be_met};
 pub use range::ClockRange;
-pub use skew::{first_edge, global_skew, near_skew, skew_between};
+pub use skew::{first_edge, global_skew, neighbour_skew, skew_between};
 
 mod laws;
 mod range;

@@ -1,7 +1,7 @@
 ghost use Rattle.std.specs.Prelude.{◌≡◌, ◌==◌, ◌<◌, ◌∷◌, length};
 ghost use Rattle.std.specs.List.{find};
 ghost use Rattle.gs_skew.specs.Ranges.{AreEnds};
-ghost use Rattle.gs_skew.specs.Skews.{edge_skew, global_skew, near_skew, skew_between};
+ghost use Rattle.gs_skew.specs.Skews.{edge_skew, global_skew, neighbour_skew, skew_between};
 
 use crate::range::ClockRange;
 use gs_topo::Topology;
@@ -36,9 +36,9 @@ pub fn skew_between(clocks: &[u64], v: u32, w: u32) -> u64
 }
 
 /// The greatest difference of the ends of an edge, in clock units, and 0 where there is no edge.
-pub fn near_skew(topo: &Topology, clocks: &[u64]) -> u64
+pub fn neighbour_skew(topo: &Topology, clocks: &[u64]) -> u64
     requires { length clocks.now ≡ topo.now.nodes }
-    ensures { result ≡ near_skew topo.now.edges clocks.now }
+    ensures { result ≡ neighbour_skew topo.now.edges clocks.now }
 {
     let mut most = 0;
     for edge in topo.edges() {

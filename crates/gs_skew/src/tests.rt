@@ -1,6 +1,6 @@
 use crate::{
-    ClockRange, first_edge, global_skew, levels_have_a_network, levels_keep_bounds, near_skew,
-    potentials_are_skews, skew_between,
+    ClockRange, first_edge, global_skew, levels_keep_bounds, neighbour_skew, potentials_are_skews,
+    premises_can_be_met, skew_between,
 };
 use gs_topo::Topology;
 use std::test::Fail;
@@ -19,7 +19,7 @@ fn skews_are_the_greatest_differences(rt: HostRuntime) -> Result<(), Fail> {
     assert_eq!(rt; range.width(), 6);
     let line = Topology::new(rt.alloc(), 3, &[(0, 2), (1, 2)])?;
     if line.nodes() == 3 {
-        assert_eq!(rt; near_skew(&line, &clocks), 4);
+        assert_eq!(rt; neighbour_skew(&line, &clocks), 4);
         assert_eq!(rt; first_edge(&line, &clocks, 4), Some((1, 2)));
         assert_eq!(rt; first_edge(&line, &clocks, 6), None);
     }
@@ -29,6 +29,6 @@ fn skews_are_the_greatest_differences(rt: HostRuntime) -> Result<(), Fail> {
 #[test]
 fn laws_cost_nothing(_rt: HostRuntime) {
     levels_keep_bounds();
-    levels_have_a_network();
+    premises_can_be_met();
     potentials_are_skews();
 }

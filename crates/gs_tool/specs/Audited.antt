@@ -3,8 +3,7 @@ use Rattle.std.specs.Prelude.{◌≡◌, ℕ, ◌<◌, ◌≤◌, ◌⊎◌, Lis
 use Rattle.gs_units.specs.declared.params.NodeParams.{NodeParams}
 use Rattle.gs_units.specs.declared.rate.Mode.{Mode}
 use Rattle.gs_units.specs.declared.rate.Mode.TheVariants.{Slow, Fast}
-use Rattle.gs_plan.specs.Nodes.{params_in}
-use Rattle.gs_plan.specs.Plans.{text_of, graph_of, rate_of}
+use Rattle.gs_plan.specs.Plans.{graph_of, params_for, text_of}
 use Rattle.gs_plan.specs.declared.plan.Plan.{Plan}
 use Rattle.gs_core.specs.Faults.{why_of}
 use Rattle.gs_core.specs.declared.event.Event.{Event}
@@ -79,4 +78,4 @@ abbrev pub IsReplayed : ℕ → Plan → List ℕ → Answer → Type 0
 IsReplayed v plan bytes answer =
     (((graph_of plan).nodes ≤ v) × (answer ≡ node_refused v))
     ⊎ ((v < (graph_of plan).nodes)
-    × IsReplayOf (params_in (text_of plan) (graph_of plan) (rate_of plan) v) bytes answer)
+    × IsReplayOf (params_for plan v) bytes answer)

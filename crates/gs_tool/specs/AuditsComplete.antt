@@ -1,8 +1,7 @@
 -- What `audit` and `replay` do where nothing fails.
 use Rattle.std.specs.Prelude.{◌≡◌, ℕ, ◌<◌, ◌≤◌, List, length, Option, Some, None}
 use Rattle.gs_planfile.specs.declared.text.PlanText.{PlanText}
-use Rattle.gs_plan.specs.Nodes.{params_in}
-use Rattle.gs_plan.specs.Plans.{graph_of, rate_of, text_of}
+use Rattle.gs_plan.specs.Plans.{graph_of, params_for, text_of}
 use Rattle.gs_plan.specs.declared.plan.Plan.{Plan}
 use Rattle.gs_core.specs.declared.event.Event.{Event}
 use Rattle.gs_core.specs.declared.event.NodeEvent.{NodeEvent}
@@ -37,7 +36,7 @@ pub record IsTakenTrace (p : Plan) (v : ℕ) (bytes : List ℕ) : Type 0 where
   pub node : v < (graph_of p).nodes
   pub whole : node_fault (text_of p).cluster v bytes ≡ None
   pub taken : (s : NodeStart) (es : List NodeEvent) → SpellsNode (text_of p).cluster v s es bytes
-      → TakesAll (node_verdict_of (params_in (text_of p) (graph_of p) (rate_of p) v) s es)
+      → TakesAll (node_verdict_of (params_for p v) s es)
 
 -- Where no count of the sink rose:
 pub record AuditsComplete (files : FilesSeen) (words : List (List ℕ)) (before after : ℕ) (status : Status) : Type 0 where

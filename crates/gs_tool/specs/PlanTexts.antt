@@ -7,7 +7,7 @@ use Rattle.gs_planfile.specs.declared.text.PlanText.{PlanText}
 use Rattle.gs_planfile.specs.declared.text.Version.{Version}
 use Rattle.gs_planfile.specs.declared.text.Version.TheVariants.{One, Two}
 use Rattle.gs_plan.specs.declared.edge.EdgeNumbers.{EdgeNumbers}
-use Rattle.gs_plan.specs.Edges.{own_text}
+use Rattle.gs_plan.specs.Edges.{own_given}
 use Rattle.gs_plan.specs.Numbers.{q_in, top_in, sigma_in, r_in, iota_in, kappa_in, delta_in, comp_in, numbers_of}
 use Rattle.gs_plan.specs.Bounds.{lambda_in, level_in, local_in, best_in, best_edge_in}
 
@@ -33,8 +33,8 @@ with_times text t =
 -- the line of the plan's own link numbers
 abbrev pub with_link : List ℕ → PlanText → List ℕ
 with_link text t =
-    text ++ codes "kappa " ++ decimal (kappa_in t (own_text t)) ++ codes " delta " ++ decimal (delta_in t (own_text t))
-    ++ codes " comp " ++ decimal (comp_in t (own_text t)) ++ 10 ∷ []
+    text ++ codes "kappa " ++ decimal (kappa_in t (own_given t)) ++ codes " delta " ++ decimal (delta_in t (own_given t))
+    ++ codes " comp " ++ decimal (comp_in t (own_given t)) ++ 10 ∷ []
 
 -- the line of what the bounds are made of
 abbrev pub with_terms : List ℕ → PlanText → Graph → List ℕ

@@ -2,8 +2,7 @@
 use Rattle.std.specs.Prelude.{ℕ, zero, suc, ◌+◌, List, [], ◌∷◌, ◌++◌, Option, Some, None, codes, decimal, length}
 use Rattle.std.specs.Prelude.{slice_index, slice_index_or}
 use Rattle.gs_topo.specs.Graph.{Graph}
-use Rattle.gs_plan.specs.Bounds.{level_in}
-use Rattle.gs_plan.specs.Plans.{graph_of, text_of}
+use Rattle.gs_plan.specs.Plans.{bound_of, graph_of, text_of}
 use Rattle.gs_plan.specs.declared.plan.Plan.{Plan}
 use Rattle.gs_level.specs.ReportText.{with_fast}
 use Rattle.gs_script.specs.Script.{Said}
@@ -25,7 +24,7 @@ quantum_text None = codes "none"
 abbrev pub with_time : List ℕ → Plan → ℕ → ℕ → Option ℕ → List ℕ
 with_time text plan s time last =
     text ++ codes "level " ++ decimal s ++ codes " time " ++ decimal time
-    ++ codes " bound " ++ decimal (level_in (text_of plan) (graph_of plan) s)
+    ++ codes " bound " ++ decimal (bound_of plan s)
     ++ codes " last " ++ quantum_text last ++ 10 ∷ []
 
 -- the lines of the first n levels

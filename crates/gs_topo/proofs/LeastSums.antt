@@ -11,7 +11,7 @@ use Rattle.std.proofs.lemmas.List.FromFn.{length-map-range_with_len, get_or-map-
 use Rattle.gs_topo.specs.Graph.{adjacent, Adjacent, joins, neighbours_of, number_of}
 use Rattle.gs_topo.specs.inside.Search.{AreSteps, AreSums, far_sum, steps_over}
 use Rattle.gs_topo.specs.declared.steps.Step.{Step}
-use Rattle.gs_topo.specs.Walks.{IsGraph, IsLeast, IsWalk, length_of, one_each, distance_of}
+use Rattle.gs_topo.specs.Walks.{IsTopology, IsLeast, IsWalk, length_of, one_each, distance_of}
 use Rattle.gs_topo.specs.Weights.{Lengths, length_between}
 use Rattle.gs_topo.specs.inside.Weighted.{AreRows}
 use Rattle.gs_topo.proofs.Members.{member-from_list_any}
@@ -24,7 +24,7 @@ between_small lengths None small = omega arith
 between_small lengths (Some i) small = let s = small i in omega (arith, s)
 
 -- a search from a node finds the least sums, where walks lead everywhere
-pub sum_is_least : (l : Lengths) (source w : ℕ) (sums : List ℕ) → IsGraph l.graph → ((i : ℕ) → slice_index l.lengths i < 2 ^ 64) → AreSums l.graph.nodes (adjacent l.graph) (length_between l) far_sum source sums
+pub sum_is_least : (l : Lengths) (source w : ℕ) (sums : List ℕ) → IsTopology l.graph → ((i : ℕ) → slice_index l.lengths i < 2 ^ 64) → AreSums l.graph.nodes (adjacent l.graph) (length_between l) far_sum source sums
     → source < l.graph.nodes → w < l.graph.nodes → IsLeast (Adjacent l.graph) l.graph.nodes (length_between l) source w (slice_index sums w)
 sum_is_least l source w sums is small s hs hw =
     let g = l.graph in
@@ -40,7 +40,7 @@ sum_is_least l source w sums is small s hs hw =
     }
 
 -- one row more
-pub rows_more : (l : Lengths) (source : ℕ) (table sums : List ℕ) → IsGraph l.graph → ((i : ℕ) → slice_index l.lengths i < 2 ^ 64) → source < l.graph.nodes
+pub rows_more : (l : Lengths) (source : ℕ) (table sums : List ℕ) → IsTopology l.graph → ((i : ℕ) → slice_index l.lengths i < 2 ^ 64) → source < l.graph.nodes
     → AreSums l.graph.nodes (adjacent l.graph) (length_between l) far_sum source sums → AreRows l source table → AreRows l (source + 1) (table ++ sums)
 rows_more l source table sums is small hs s rows =
     let n : ℕ = l.graph.nodes in
@@ -91,7 +91,7 @@ between_equal l common count equal v w next =
     let one : common * 1 ≡ common = omega arith in
     rw (place.2, one) is
 
-pub scaled_least : (l : Lengths) (common : ℕ) → IsGraph l.graph → length l.lengths ≡ length l.graph.edges → All (λ x. x ≡ common) l.lengths → (v w : ℕ) → v < l.graph.nodes → w < l.graph.nodes
+pub scaled_least : (l : Lengths) (common : ℕ) → IsTopology l.graph → length l.lengths ≡ length l.graph.edges → All (λ x. x ≡ common) l.lengths → (v w : ℕ) → v < l.graph.nodes → w < l.graph.nodes
     → IsLeast (Adjacent l.graph) l.graph.nodes (length_between l) v w (common * distance_of l.graph v w)
 scaled_least l common is count equal v w hv hw =
     let g = l.graph in

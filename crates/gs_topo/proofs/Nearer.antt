@@ -7,14 +7,14 @@ use Rattle.std.proofs.lemmas.List.{get_or_default}
 use Rattle.std.proofs.lemmas.List.Sums.{position_or_len_is}
 use Rattle.gs_topo.specs.Graph.{Graph, Adjacent, adjacent, neighbours_of, joins}
 use Rattle.gs_topo.specs.Laws.{AreLeastSums}
-use Rattle.gs_topo.specs.Walks.{IsCloser, IsGraph, IsWalk, length_of, distance_of, one_each}
+use Rattle.gs_topo.specs.Walks.{IsCloser, IsTopology, IsWalk, length_of, distance_of, one_each}
 use Rattle.gs_topo.proofs.Members.{Contains-filter, Contains-range, member-from_list_any, range_below}
 use Rattle.gs_topo.proofs.Ascending.{joins-cases}
 use Rattle.gs_topo.proofs.Distances.{is_least, both_ways}
 use Rattle.gs_topo.proofs.Weighing.{least_sums_weigh}
 
 -- no node is its own neighbour
-no_own : (g : Graph) → IsGraph g → (v : ℕ) → Adjacent g v v → ⊥
+no_own : (g : Graph) → IsTopology g → (v : ℕ) → Adjacent g v v → ⊥
 no_own g is v next =
     let m = member-from_list_any (λ e. joins e v v) g.edges next in
     let upright = All-contains (λ e. e.0 < e.1) g.edges m.0 is.upright m.1 in
@@ -30,7 +30,7 @@ walk_of_none : (g : Graph) (v w : ℕ) (xs : List ℕ) → IsWalk (Adjacent g) g
 walk_of_none g v w [] walk none = walk
 walk_of_none g v w (x ∷ xs) walk none = absurd (omega (arith, none))
 
-one_at : (g : Graph) → IsGraph g → (v w : ℕ) → v < g.nodes → w < g.nodes → (b : Bool) → adjacent g v w ≡ b → (distance_of g v w == 1) ≡ b
+one_at : (g : Graph) → IsTopology g → (v w : ℕ) → v < g.nodes → w < g.nodes → (b : Bool) → adjacent g v w ≡ b → (distance_of g v w == 1) ≡ b
 one_at g is v w hv hw true next =
     let least = is_least g is.connected v w hv hw in
     let le = least.each (w ∷ []) (next, hw, refl) in
@@ -48,11 +48,11 @@ one_at g is v w hv hw false apart = ne_eqb (distance_of g v w) 1 (λ one.
     let clash : true ≡ false = sym next ∙ apart in cc)
 
 -- The neighbours are the nodes at distance 1.
-pub distance_one : (g : Graph) → IsGraph g → (v w : ℕ) → v < g.nodes → w < g.nodes → (distance_of g v w == 1) ≡ adjacent g v w
+pub distance_one : (g : Graph) → IsTopology g → (v w : ℕ) → v < g.nodes → w < g.nodes → (distance_of g v w == 1) ≡ adjacent g v w
 distance_one g is v w hv hw = one_at g is v w hv hw (adjacent g v w) refl
 
 -- some neighbour of v is one step nearer to w
-pub some_nearer : (g : Graph) → IsGraph g → (v w : ℕ) → v < g.nodes → w < g.nodes → v ≢ w → (x : ℕ) × (x < g.nodes) × Adjacent g v x × (distance_of g x w + 1 ≡ distance_of g v w)
+pub some_nearer : (g : Graph) → IsTopology g → (v w : ℕ) → v < g.nodes → w < g.nodes → v ≢ w → (x : ℕ) × (x < g.nodes) × Adjacent g v x × (distance_of g x w + 1 ≡ distance_of g v w)
 some_nearer g is v w hv hw other =
     let sums : AreLeastSums g.nodes (adjacent g) one_each (distance_of g) = record { both_ways = both_ways g; same_length = λ a b. refl; least = is_least g is.connected } in
     let weighs = least_sums_weigh g.nodes (adjacent g) one_each (distance_of g) sums in
@@ -124,7 +124,7 @@ found_closer g v w i inside before nearer =
           ]);
     }
 
-pub must_find : (g : Graph) → IsGraph g → (v w : ℕ) → v < g.nodes → w < g.nodes → v ≢ w → NoneBefore g v w (length (neighbours_of g v)) → ⊥
+pub must_find : (g : Graph) → IsTopology g → (v w : ℕ) → v < g.nodes → w < g.nodes → v ≢ w → NoneBefore g v w (length (neighbours_of g v)) → ⊥
 must_find g is v w hv hw other none =
     let x = some_nearer g is v w hv hw other in
     let p = place_of g v x.0 x.1 x.2 in

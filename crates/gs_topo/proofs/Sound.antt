@@ -17,7 +17,7 @@ use Rattle.gs_topo.specs.Faults.{edge_fault, edges_fault, split_fault, fault_of}
 use Rattle.gs_topo.specs.Graph.{Graph, IsBefore, joins, joined, adjacent, Adjacent, neighbours_of, pairs_below, graph_of}
 use Rattle.gs_topo.specs.inside.Kept.{HasFlags, flag_at}
 use Rattle.gs_topo.specs.inside.Search.{AreBelow, AreSteps, AreSums, AreInside, steps_over, far_level}
-use Rattle.gs_topo.specs.Walks.{IsWalk, IsGraph, IsSplitAt, one_each, reaches}
+use Rattle.gs_topo.specs.Walks.{IsWalk, IsTopology, IsSplitAt, one_each, reaches}
 use Rattle.gs_topo.proofs.Members.{Contains-map, member-from_list_any, range_below}
 use Rattle.gs_topo.proofs.Walks.{walk_append, turned, below_walks}
 use Rattle.gs_topo.proofs.Searching.{each_step}
@@ -181,7 +181,7 @@ few_edges n given =
     (is_member-Decides Decides-eqb ys q).1 (rw same at (Contains-map (code_of_given n) given f.0 f.1))) in
     omega (arith, le, length-map es (code n), length-map given (code_of_given n))
 
-pub is_graph : (n : ℕ) (given : List (ℕ × ℕ)) → 1 ≤ n → n ≤ 512 → length given ≤ 4096 → IsConnected (graph_of n given) → IsGraph (graph_of n given)
+pub is_graph : (n : ℕ) (given : List (ℕ × ℕ)) → 1 ≤ n → n ≤ 512 → length given ≤ 4096 → IsConnected (graph_of n given) → IsTopology (graph_of n given)
 is_graph n given some few many together =
     let test : ℕ × ℕ → Bool = λ e. joined given e.0 e.1 in
     let within : All (λ e. (e.0 < e.1) × (e.1 < n)) (graph_of n given).edges = All-filter test (λ e. (e.0 < e.1) × (e.1 < n)) (pairs_below n) (pairs_within n) in
@@ -241,7 +241,7 @@ no_edges_split n before i (e ∷ es) v h = elim (some_of (edge_fault n before i 
   | inr later ↦ no_edges_split n (before ++ e ∷ []) (i + 1) es v later
 ]
 
-pub none_found : (n : ℕ) (given : List (ℕ × ℕ)) (sums : List ℕ) → IsSearched n given sums → ((u : ℕ) → u < length sums → slice_index sums u ≢ far_level) → (fault_of n given ≡ None) × IsGraph (graph_of n given)
+pub none_found : (n : ℕ) (given : List (ℕ × ℕ)) (sums : List ℕ) → IsSearched n given sums → ((u : ℕ) → u < length sums → slice_index sums u ≢ far_level) → (fault_of n given ≡ None) × IsTopology (graph_of n given)
 none_found n given sums s all =
     let g = graph_of n given in
     let each : (u : ℕ) → u < n → slice_index sums u ≢ far_level = λ u hu. all u (rw s.found.count hu) in

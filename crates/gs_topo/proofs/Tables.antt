@@ -6,7 +6,7 @@ use Rattle.std.proofs.Math.Nat.{suc-mul}
 use Rattle.std.proofs.lemmas.Nat.{mul-add-lt}
 use Rattle.std.proofs.lemmas.List.FromFn.{fill_by_all, length-map-range_with_len, get_or-map-range_with_len}
 use Rattle.gs_topo.specs.Graph.{Graph, adjacent, Adjacent, neighbours_of}
-use Rattle.gs_topo.specs.Walks.{IsGraph, one_each, distance_of, distances_of, diameter_of}
+use Rattle.gs_topo.specs.Walks.{IsTopology, one_each, distance_of, distances_of, diameter_of}
 use Rattle.gs_topo.specs.inside.Search.{AreLevels, AreSteps, AreSums, Searched, far_level, far_sum}
 use Rattle.gs_topo.specs.declared.steps.Step.{Step}
 use Rattle.gs_topo.proofs.Walks.{below_walks}
@@ -17,7 +17,7 @@ sums_of all n source adj k sums steps searched =
     let s : AreSteps n adj k all → AreSums n adj k far_sum source sums = rw steps.count at (searched adj k) in
     s steps
 
-pub sum_is_distance : (g : Graph) (source w : ℕ) (sums : List ℕ) → IsGraph g → AreSums g.nodes (adjacent g) one_each far_level source sums → source < g.nodes → w < g.nodes
+pub sum_is_distance : (g : Graph) (source w : ℕ) (sums : List ℕ) → IsTopology g → AreSums g.nodes (adjacent g) one_each far_level source sums → source < g.nodes → w < g.nodes
     → slice_index sums w ≡ distance_of g source w
 sum_is_distance g source w sums is s hs hw =
     let least = is_least g is.connected source w hs hw in
@@ -28,7 +28,7 @@ sum_is_distance g source w sums is s hs hw =
     let le = least.each found.0 found.1 in
     omega (arith, most, walk.2, s.start, le, found.2)
 
-pub row_is : (g : Graph) (lists : List (List ℕ)) (source : ℕ) (levels : List ℕ) → IsGraph g → lists ≡ map (neighbours_of g) (range_with_len 0 g.nodes) → source < g.nodes
+pub row_is : (g : Graph) (lists : List (List ℕ)) (source : ℕ) (levels : List ℕ) → IsTopology g → lists ≡ map (neighbours_of g) (range_with_len 0 g.nodes) → source < g.nodes
     → AreLevels lists source levels → levels ≡ map (distance_of g source) (range_with_len 0 g.nodes)
 row_is g lists source levels is are hs found =
     let s = found g are in

@@ -1,7 +1,7 @@
 -- The laws of least sums over walks, and of distances.
 use Rattle.std.specs.Prelude.{◌≡◌, ℕ, ◌+◌, ◌<◌, ◌≤◌, Bool, IsTrue}
 use Rattle.gs_topo.specs.Graph.{Graph}
-use Rattle.gs_topo.specs.Walks.{IsLeast, IsGraph, distance_of}
+use Rattle.gs_topo.specs.Walks.{IsLeast, IsTopology, distance_of}
 use Rattle.gs_topo.specs.Weights.{Weighs}
 
 -- steps go both ways at one length, and the weight of each pair is the least sum over its walks
@@ -24,4 +24,4 @@ pub record AreMetric (g : Graph) : Type 0 where
   pub small : (v w : ℕ) → v < g.nodes → w < g.nodes → distance_of g v w < g.nodes
 
 abbrev pub DistancesAreMetric : Type 0
-DistancesAreMetric = (g : Graph) → IsGraph g → AreMetric g
+DistancesAreMetric = (g : Graph) → IsTopology g → AreMetric g

@@ -63,7 +63,7 @@ pub record IsCloser (g : Graph) (v w x : ℕ) : Type 0 where
   pub least : (u : ℕ) → u < g.nodes → Adjacent g v u → distance_of g u w + 1 ≡ distance_of g v w → x ≤ u
 
 -- what every topology is
-pub record IsGraph (g : Graph) : Type 0 where
+pub record IsTopology (g : Graph) : Type 0 where
   pub some : 1 ≤ g.nodes
   pub few : g.nodes ≤ 512
   pub few_edges : length g.edges ≤ 4096

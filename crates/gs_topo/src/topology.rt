@@ -2,7 +2,7 @@ ghost use Rattle.std.specs.Prelude.{◌≡◌, ◌≢◌, ◌+◌, ◌<◌, ◌�
 ghost use Rattle.std.specs.Prelude.{All, AllPairs, length, position};
 ghost use Rattle.gs_topo.specs.Faults.{fault_of};
 ghost use Rattle.gs_topo.specs.Graph.{Graph, IsBefore, Adjacent, adjacent, graph_of, joins, neighbours_of, number_of};
-ghost use Rattle.gs_topo.specs.Walks.{IsCloser, IsGraph, IsLeast, IsSplitAt, diameter_of, distance_of, one_each};
+ghost use Rattle.gs_topo.specs.Walks.{IsCloser, IsTopology, IsLeast, IsSplitAt, diameter_of, distance_of, one_each};
 
 use crate::build::{edge_list, neighbour_lists};
 use crate::distance_table::{greatest, table_of};
@@ -55,7 +55,7 @@ impl Topology {
         ensures sound { IfOk result (λ topology. fault_of n edges.now ≡ None) }
         ensures err { IfErr result (λ e. e ≢ TopoFault.OutOfMemory → fault_of n edges.now ≡ Some e) }
         ensures split { (v : ℕ) → result ≡ Err (TopoFault.Split v) → IsSplitAt (graph_of n edges.now) v }
-        ensures graph { IfOk result IsGraph }
+        ensures graph { IfOk result IsTopology }
     {
         if n == 0 || n > MAX_NODES {
             return Err(TopoFault::Count);
@@ -84,7 +84,7 @@ impl Topology {
     /// The number of nodes.
     pub fn nodes(&self) -> u32
         ensures value { result ≡ self.now.nodes }
-        ensures graph { IsGraph self.now }
+        ensures graph { IsTopology self.now }
     {
         self.nodes
     }
@@ -92,7 +92,7 @@ impl Topology {
     /// The edges in ascending order, the lower end of each first.
     pub fn edges(&self) -> &[(u32, u32)]
         ensures value { result.now ≡ self.now.edges }
-        ensures graph { IsGraph self.now }
+        ensures graph { IsTopology self.now }
     {
         &self.edges
     }
@@ -109,7 +109,7 @@ impl Topology {
     pub fn distance(&self, v: u32, w: u32) -> u32
         requires { (v < self.now.nodes) × (w < self.now.nodes) }
         ensures value { result ≡ distance_of self.now v w }
-        ensures graph { IsGraph self.now }
+        ensures graph { IsTopology self.now }
         ensures least { IsLeast (Adjacent self.now) self.now.nodes one_each v w result }
         ensures below { result < self.now.nodes }
     {

@@ -2,7 +2,7 @@
 use Rattle.std.specs.Prelude.{ℕ, ◌<◌, ◌≤◌, ◌^◌}
 
 -- the numbers that a rate may have
-pub record AreRates (lo hi mu : ℕ) : Type 0 where
+pub record IsRate (lo hi mu : ℕ) : Type 0 where
   pub low : 1 ≤ lo
   pub above : lo < hi
   pub high : hi ≤ 2 ^ 30

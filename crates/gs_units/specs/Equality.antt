@@ -7,7 +7,7 @@ use Rattle.std.proofs.Common.{refl, sym, ap, subst, rules}
 use Rattle.std.proofs.Props.{props}
 use Rattle.std.proofs.lemmas.Bool.Decides.{Decides-eqb}
 use Rattle.std.proofs.lemmas.Slice.Eq.{slice_eq-Decides}
-use Rattle.gs_units.specs.Accepted.{AreRates}
+use Rattle.gs_units.specs.Accepted.{IsRate}
 use Rattle.gs_units.specs.declared.params.Link.{Link}
 use Rattle.gs_units.specs.declared.params.NodeParams.{NodeParams}
 use Rattle.gs_units.specs.declared.rate.Rate.{Rate}
@@ -49,19 +49,19 @@ pub same_links-laws : IsEquivalence same_links
 same_links-laws = equivalence-from_Decides same_links same_links-Decides
 
 -- a rate is its three numbers: that they are accepted has one proof
-AreRates-prop : (lo hi mu : ℕ) → IsProp (AreRates lo hi mu)
-AreRates-prop lo hi mu = hlevel props
+IsRate-prop : (lo hi mu : ℕ) → IsProp (IsRate lo hi mu)
+IsRate-prop lo hi mu = hlevel props
 
-rated : (lo hi mu : ℕ) → AreRates lo hi mu → Rate
+rated : (lo hi mu : ℕ) → IsRate lo hi mu → Rate
 rated low high boost are = record { lo = low; hi = high; mu = boost; accepted = are }
 
 rate-same : (a b : Rate) → a.lo ≡ b.lo → a.hi ≡ b.hi → a.mu ≡ b.mu → a ≡ b
 unfolding rated
 rate-same a b lo hi mu =
-    let here : (are : AreRates a.lo a.hi a.mu) → a ≡ rated a.lo a.hi a.mu are = λ are. ap (rated a.lo a.hi a.mu) (AreRates-prop a.lo a.hi a.mu a.accepted are) in
-    let boost = subst (λ x. (are : AreRates a.lo a.hi x) → a ≡ rated a.lo a.hi x are) mu here in
-    let high = subst (λ x. (are : AreRates a.lo x b.mu) → a ≡ rated a.lo x b.mu are) hi boost in
-    subst (λ x. (are : AreRates x b.hi b.mu) → a ≡ rated x b.hi b.mu are) lo high b.accepted
+    let here : (are : IsRate a.lo a.hi a.mu) → a ≡ rated a.lo a.hi a.mu are = λ are. ap (rated a.lo a.hi a.mu) (IsRate-prop a.lo a.hi a.mu a.accepted are) in
+    let boost = subst (λ x. (are : IsRate a.lo a.hi x) → a ≡ rated a.lo a.hi x are) mu here in
+    let high = subst (λ x. (are : IsRate a.lo x b.mu) → a ≡ rated a.lo x b.mu are) hi boost in
+    subst (λ x. (are : IsRate x b.hi b.mu) → a ≡ rated x b.hi b.mu are) lo high b.accepted
 
 same_rate-Decides : (a b : Rate) → Decides (same_rate a b) (a ≡ b)
 same_rate-Decides a b = search (rules, Decides-eqb, rate-same)

@@ -1,5 +1,5 @@
 ghost use Rattle.std.specs.Prelude.{◌≡◌, ◌*◌, ◌<◌, ◌≤◌, ◌^◌, ◌↔◌, ◌⊎◌, Some, None, IfOk, IfErr};
-ghost use Rattle.gs_units.specs.Accepted.{AreRates};
+ghost use Rattle.gs_units.specs.Accepted.{IsRate};
 
 use std::error::Error;
 use std::fmt;
@@ -50,7 +50,7 @@ pub struct Rate {
     lo: u32,
     hi: u32,
     mu: u32,
-    ghost accepted: { AreRates lo hi mu },
+    ghost accepted: { IsRate lo hi mu },
 }
 
 impl Rate {

@@ -12,7 +12,7 @@ use Rattle.gs_plan.specs.Bounds.{global_in, local_in}
 use Rattle.gs_plan.specs.Plans.{graph_of, text_of}
 use Rattle.gs_level.specs.declared.peak.Peak.{Peak}
 use Rattle.gs_level.specs.Peaks.{peak_of}
-use Rattle.gs_skew.specs.Skews.{edge_skew, global_skew, near_skew}
+use Rattle.gs_skew.specs.Skews.{edge_skew, global_skew, neighbour_skew}
 use Rattle.gs_plan.specs.Weights.{weight_in}
 use Rattle.gs_skew.proofs.Greatest.{greatest_at_most}
 use Rattle.gs_run.specs.Net.{Net}
@@ -33,7 +33,7 @@ edge_joins g k d h =
 
 -- no neighbour skew is above local(s) in a world within its plan
 near_within : (p : Plan) (s : ℕ) (w : World) → IsWithinPlan p w
-    → near_skew (graph_of p).edges (clocks_in (net_of p) w) ≤ local_in (text_of p) (graph_of p) s
+    → neighbour_skew (graph_of p).edges (clocks_in (net_of p) w) ≤ local_in (text_of p) (graph_of p) s
 near_within p s w within =
     let g : Graph = graph_of p in
     greatest_at_most (edge_skew (clocks_in (net_of p) w)) g.edges (local_in (text_of p) g s) (λ k d h.
@@ -51,12 +51,12 @@ reports_keep_bounds p hw l0 es allowed =
     let each : All (IsWithinPlan p) total = ends_are_within p hw l0 es allowed in
     let globals : All (λ row. global_skew row ≤ global_in t g) rows =
     All-map (λ row. global_skew row ≤ global_in t g) (clocks_in net) total (λ k d h. (each k d h).global) in
-    let nears : (s : ℕ) → All (λ row. near_skew g.edges row ≤ local_in t g s) rows = λ s.
-    All-map (λ row. near_skew g.edges row ≤ local_in t g s) (clocks_in net) total (λ k d h.
+    let nears : (s : ℕ) → All (λ row. neighbour_skew g.edges row ≤ local_in t g s) rows = λ s.
+    All-map (λ row. neighbour_skew g.edges row ≤ local_in t g s) (clocks_in net) total (λ k d h.
     near_within p s (get_or total k d) (each k d h)) in
     record {
       global = greatest_at_most global_skew rows (global_in t g) globals;
-      near = λ s. greatest_at_most (near_skew g.edges) rows (local_in t g s) (nears s);
+      near = λ s. greatest_at_most (neighbour_skew g.edges) rows (local_in t g s) (nears s);
       levels = λ s d h.
           let last : ℕ = length rows - 1 in
           let row : List ℕ = get_or rows last [] in

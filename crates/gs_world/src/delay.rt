@@ -12,8 +12,8 @@ use std::alloc::{AllocError, Global};
 /// How long beacons may take over an edge, in quanta.
 #[derive(Clone, Copy, Debug)]
 pub(crate) struct Delay {
-    pub(crate) least: u32,
-    pub(crate) greatest: u32,
+    pub(crate) delay_min: u32,
+    pub(crate) delay_max: u32,
 }
 
 impl Delay {
@@ -22,10 +22,10 @@ impl Delay {
         ensures ok { OnOk result (age_refused self sent quanta ≡ None) }
         ensures err { IfErr result (λ refused. age_refused self sent quanta ≡ Some refused) }
     {
-        if u64::from(quanta) < u64::from(sent) + u64::from(self.least) {
+        if u64::from(quanta) < u64::from(sent) + u64::from(self.delay_min) {
             return Err(Refused::Early);
         }
-        if u64::from(sent) + u64::from(self.greatest) < u64::from(quanta) {
+        if u64::from(sent) + u64::from(self.delay_max) < u64::from(quanta) {
             return Err(Refused::Late);
         }
         Ok(())
@@ -55,8 +55,8 @@ fn between(plan: &Plan, v: u32, x: u32) -> Delay
         Some(e) => {
             let edge = plan.edge(e);
             Delay {
-                least: edge.delay_min,
-                greatest: edge.delay_max,
+                delay_min: edge.delay_min,
+                delay_max: edge.delay_max,
             }
         }
         None => unreachable!(),

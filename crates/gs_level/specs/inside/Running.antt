@@ -4,7 +4,7 @@ use Rattle.std.specs.List.{find, range_with_len}
 use Rattle.gs_topo.specs.Graph.{Graph}
 use Rattle.gs_level.specs.declared.peak.Peak.{Peak}
 use Rattle.gs_level.specs.declared.tally.Tally.{Tally}
-use Rattle.gs_skew.specs.Skews.{beyond, edge_skew, global_skew, near_skew}
+use Rattle.gs_skew.specs.Skews.{beyond, edge_skew, global_skew, neighbour_skew}
 
 -- a peak, or the excess of one more pair where that is greater
 abbrev pub raised_to : Peak → ℕ → ℕ → ℕ → Peak
@@ -26,11 +26,11 @@ raised_global tally skew =
 -- the same with the neighbour skew and its first edge
 unfoldable pub raised_near : List (ℕ × ℕ) → Tally → List ℕ → Tally
 raised_near edges tally clocks =
-    if nat_lt tally.near (near_skew edges clocks)
+    if nat_lt tally.near (neighbour_skew edges clocks)
     then record tally {
-      near = near_skew edges clocks;
+      near = neighbour_skew edges clocks;
       near_at = tally.rows;
-      near_edge = find (λ e. edge_skew clocks e == near_skew edges clocks) edges;
+      near_edge = find (λ e. edge_skew clocks e == neighbour_skew edges clocks) edges;
     }
     else tally
 

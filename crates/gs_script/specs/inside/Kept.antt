@@ -5,7 +5,7 @@ use Rattle.std.specs.Prelude.{length, map, option_map, get_or, slice_get, slice_
 use Rattle.std.specs.Option.{option_map_or}
 use Rattle.gs_topo.specs.Graph.{neighbours_of}
 use Rattle.gs_planfile.specs.declared.text.PlanText.{PlanText}
-use Rattle.gs_plan.specs.Edges.{edge_text}
+use Rattle.gs_plan.specs.Edges.{edge_given}
 use Rattle.gs_plan.specs.Shapes.{graph_of_text}
 use Rattle.gs_script.specs.declared.fault.ScriptFault.{ScriptFault}
 use Rattle.gs_script.specs.declared.line.Line.{Line}
@@ -31,7 +31,7 @@ use Rattle.gs_script.specs.Script.{IsScript, Said, least_delay}
 
 -- an edge with its delays
 abbrev pub link_of : PlanText → ℕ × ℕ → Link
-link_of t e = record { a = e.0; b = e.1; delay_min = (edge_text t e).delay_min; delay_max = (edge_text t e).delay_max }
+link_of t e = record { a = e.0; b = e.1; delay_min = (edge_given t e).delay_min; delay_max = (edge_given t e).delay_max }
 
 abbrev pub links_of : PlanText → List Link
 links_of t = map (link_of t) (graph_of_text t).edges
@@ -156,7 +156,7 @@ pub record AreBeacons (lines : List Line) (v w : Who) (b : BeaconRuns) : Type 0 
 
 -- the delay of beacons from v to w where no record sets it
 abbrev pub least_between : PlanText → ℕ → ℕ → ℕ
-least_between t v w = least_delay (edge_text t (v, w)).delay_min
+least_between t v w = least_delay (edge_given t (v, w)).delay_min
 
 -- what is kept of the way from v to w
 pub record IsWay (t : PlanText) (lines : List Line) (v w : ℕ) (way : WayRecords) : Type 0 where

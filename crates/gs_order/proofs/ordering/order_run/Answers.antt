@@ -1,7 +1,7 @@
 use Rattle.std.proofs.Common.{◌≡◌, ◌∙◌, ◌+◌, ◌<◌, [], All, Ok, map, ap, arith, ℕ, rules, subst, sym}
 use Rattle.std.proofs.lemmas.Result.{err_from_is_err_and}
 use Rattle.gs_topo.specs.Graph.{Graph}
-use Rattle.gs_topo.specs.Walks.{IsGraph}
+use Rattle.gs_topo.specs.Walks.{IsTopology}
 use Rattle.gs_plan.specs.Plans.{graph_of}
 use Rattle.gs_run.specs.Nets.{net_of}
 use Rattle.gs_calendar.specs.Scripts.{breach_of_script}
@@ -38,7 +38,7 @@ returns-in_err-next-clause-stop c =
 pub after_quantum-requires-clause-known : goal.after_quantum-requires-clause-known
 after_quantum-requires-clause-known c =
     let p = c.args.plan.now in
-    let graph : IsGraph (graph_of p) = subst (λ (g : Graph). IsGraph g) c.topo.ensures c.nodes-nodes.ensures.graph in
+    let graph : IsTopology (graph_of p) = subst (λ (g : Graph). IsTopology g) c.topo.ensures c.nodes-nodes.ensures.graph in
     let nodes : c.nodes-nodes.result ≡ (graph_of p).nodes = c.nodes-nodes.ensures.value ∙ ap (λ (g : Graph). g.nodes) c.topo.ensures in
     subst (λ (n : ℕ). All (λ (e : Timed). e.node < n) c.loop-events.events.items) (sym nodes)
     (known_nodes p c.args.script.now c.args.every c.loop-events.rows.quanta c.loop-events.events.items graph c.loop-events.invariant.events)

@@ -1,5 +1,5 @@
 use Rattle.gs_skew.proofs.Worked.{worked}
-use Rattle.gs_skew.proofs.laws.levels_have_a_network.Goals as goal
+use Rattle.gs_skew.proofs.laws.premises_can_be_met.Goals as goal
 
 pub returns : goal.returns
 returns c = worked

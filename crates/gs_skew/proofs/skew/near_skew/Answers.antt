@@ -1,7 +1,7 @@
 use Rattle.std.proofs.Common.{◌≡◌, max, rules}
 use Rattle.gs_skew.specs.Skews.{edge_skew}
 use Rattle.gs_skew.proofs.Greatest.{greatest_more}
-use Rattle.gs_skew.proofs.skew.near_skew.Goals as goal
+use Rattle.gs_skew.proofs.skew.neighbour_skew.Goals as goal
 
 pub loop-edge-preserved : goal.loop-edge-preserved
 loop-edge-preserved c =

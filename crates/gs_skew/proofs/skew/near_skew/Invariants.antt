@@ -1,6 +1,6 @@
 use Rattle.std.proofs.Common.{◌≡◌, take}
-use Rattle.gs_skew.specs.Skews.{near_skew}
-use Rattle.gs_skew.proofs.skew.near_skew.Given as goal
+use Rattle.gs_skew.specs.Skews.{neighbour_skew}
+use Rattle.gs_skew.proofs.skew.neighbour_skew.Given as goal
 
 abbrev pub invariant-loop-edge : goal.invariant-loop-edge
-invariant-loop-edge l = l.most ≡ near_skew (take l.edge-index l.topo.edges) l.clocks
+invariant-loop-edge l = l.most ≡ neighbour_skew (take l.edge-index l.topo.edges) l.clocks

@@ -2,7 +2,7 @@ use Rattle.std.proofs.Common.{◌≡◌, ◌∙◌, sym, ap, Some}
 use Rattle.std.proofs.lemmas.Option.{get_or_from_slice_get}
 use Rattle.gs_topo.specs.Graph.{number_of}
 use Rattle.gs_plan.specs.declared.edge.EdgeNumbers.{EdgeNumbers}
-use Rattle.gs_plan.specs.Edges.{edge_text}
+use Rattle.gs_plan.specs.Edges.{edge_given}
 use Rattle.gs_plan.specs.Numbers.{numbers_in, numbers_of}
 use Rattle.gs_plan.specs.Plans.{graph_of, text_of}
 use Rattle.gs_plan.proofs.Linking.{has_number, numbers_at}
@@ -22,6 +22,6 @@ returns c =
     let here =
     get_or_from_slice_get (numbers_of (text_of p) (graph_of p)) c.in-Some.e c.edge-edge.result c.edge-edge.result
     c.edge-edge.ensures in
-    let read : c.edge-edge.result ≡ numbers_in (text_of p) (edge_text (text_of p) (c.args.v, c.args.x)) =
+    let read : c.edge-edge.result ≡ numbers_in (text_of p) (edge_given (text_of p) (c.args.v, c.args.x)) =
     sym here ∙ at.1 in
-    ap (λ (n : EdgeNumbers). let delay : Delay = record { least = n.delay_min; greatest = n.delay_max } in delay) read
+    ap (λ (n : EdgeNumbers). let delay : Delay = record { delay_min = n.delay_min; delay_max = n.delay_max } in delay) read

@@ -1,6 +1,6 @@
 use Rattle.std.proofs.Common.{◌<◌, ◌≤◌, arith, sym, subst, ℕ}
 use Rattle.gs_skew.proofs.Greatest.{ends_have_clocks, near_within}
-use Rattle.gs_skew.specs.Skews.{near_skew}
+use Rattle.gs_skew.specs.Skews.{neighbour_skew}
 use Rattle.gs_level.proofs.tally.Tally.near_seen.Goals as goal
 
 pub returns-then-global-self : goal.returns-then-global-self
@@ -9,6 +9,6 @@ returns-then-global-self c =
     let within = near_within c.args.topo.now.edges c.args.clocks.now ends.0 ends.1 in
     let small = c.if-global-self.true in
     record {
-      bound = subst (λ (skew : ℕ). near_skew c.args.topo.now.edges c.args.clocks.now ≤ skew) (sym c.requires.global) within;
+      bound = subst (λ (skew : ℕ). neighbour_skew c.args.topo.now.edges c.args.clocks.now ≤ skew) (sym c.requires.global) within;
       exact = λ above. omega (arith, above, small);
     }

@@ -6,7 +6,7 @@ use Rattle.gs_topo.specs.declared.fault.TopoFault.TheVariants.{OutOfMemory, Spli
 use Rattle.gs_topo.specs.Faults.{edges_fault}
 use Rattle.gs_topo.specs.Graph.{Graph, graph_of, joined, neighbours_of}
 use Rattle.gs_topo.specs.inside.Kept.{AreKept, HasFlags}
-use Rattle.gs_topo.specs.Walks.{IsGraph, IsSplitAt}
+use Rattle.gs_topo.specs.Walks.{IsTopology, IsSplitAt}
 use Rattle.gs_topo.proofs.Sound.{IsSearched, edges_are, lists_are, lists_below, no_edges_split, none_found, split_found, split_is}
 use Rattle.gs_topo.proofs.Tables.{diameter_is}
 use Rattle.gs_topo.proofs.topology.Topology.new.Goals as goal
@@ -121,5 +121,5 @@ returns-clause-graph c =
     let whole = none_found c.args.n c.args.edges.now c.deref-4.result.now searched c.in_default.ensures.none in
     let edges : c.in_ok-edges.edges.items ≡ (graph_of c.args.n c.args.edges.now).edges = c.in_ok-edges.ensures ∙ edges_are c.args.n c.args.edges.now c.deref.result.now (rw c.deref.ensures.value c.in_ok-flags.ensures.flags) in
     let graph : record { nodes = c.args.n; edges = c.in_ok-edges.edges.items } ≡ graph_of c.args.n c.args.edges.now = ap (λ es. record { nodes = c.args.n; edges = es }) edges in
-    let P : Graph → Type 0 = λ g. IsGraph g in
+    let P : Graph → Type 0 = λ g. IsTopology g in
     subst P (sym graph) whole.1

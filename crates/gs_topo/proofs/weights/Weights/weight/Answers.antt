@@ -1,7 +1,7 @@
 use Rattle.std.proofs.Common.{refl, ◌≡◌, ◌*◌, ◌+◌, ◌<◌, ap, length, slice_index}
 use Rattle.std.proofs.lemmas.List.{get_or_read}
 use Rattle.std.proofs.lemmas.Nat.{mul-add-lt}
-use Rattle.gs_topo.specs.Walks.{IsGraph, distance_of}
+use Rattle.gs_topo.specs.Walks.{IsTopology, distance_of}
 use Rattle.gs_topo.specs.inside.Weighted.{AreRows, AreWeights}
 use Rattle.gs_topo.specs.Weights.{Lengths}
 use Rattle.gs_topo.specs.declared.weights.Table.TheVariants.{Each, Even}
@@ -11,7 +11,7 @@ use Rattle.gs_topo.proofs.weights.Weights.weight.Goals as goal
 pub returns-in-Even : goal.returns-in-Even
 returns-in-Even c =
     let kept : AreWeights c.args.self.now (Even c.in-Even.common) = rw c.in-Even.is at (rw c.self.view_is at c.self.invariant) in
-    let is : IsGraph c.args.self.now.graph = rw c.requires.topology at c.distance.ensures.graph in
+    let is : IsTopology c.args.self.now.graph = rw c.requires.topology at c.distance.ensures.graph in
     let product : c.from.result * c.from-in-Even.result ≡ c.in-Even.common * distance_of c.args.self.now.graph c.args.v c.args.w =
     rw (c.from.ensures, c.from-in-Even.ensures, c.distance.ensures.value, c.requires.topology) refl in
     rw product (scaled_least c.args.self.now c.in-Even.common is kept.0 kept.1 c.args.v c.args.w c.requires.nodes.0 c.requires.nodes.1)
