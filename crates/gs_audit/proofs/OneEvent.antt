@@ -1,11 +1,10 @@
 -- An audit that is under way, one event at a time.
-use Rattle.std.proofs.Common.{◌≡◌, ℕ, ◌+◌, ◌^◌, ◌<◌, ◌≤◌, arith, ap, sym, refl, ◌∙◌, List, [], ◌∷◌, ◌++◌, length, map}
+use Rattle.std.proofs.Common.{◌≡◌, ℕ, ◌+◌, ◌^◌, ◌<◌, ◌≤◌, arith, sym, refl, ◌∙◌, List, [], ◌∷◌, ◌++◌, length, map}
 use Rattle.std.proofs.Common.{Option, Some, None, append_assoc, length-append, length-set}
 use Rattle.std.proofs.lemmas.List.{length-map}
 use Rattle.std.proofs.lemmas.List.FromFn.{length-map-range_with_len}
 use Rattle.std.specs.Prelude.{slice_index}
 use Rattle.gs_topo.specs.Graph.{Graph}
-use Rattle.gs_core.specs.Node.{clock_of}
 use Rattle.gs_core.specs.declared.event.Event.{Event}
 use Rattle.gs_core.specs.declared.event.Event.TheVariants.{Quantum, Tick, Deliver}
 use Rattle.gs_level.specs.Tallies.{tally_of}
@@ -14,19 +13,16 @@ use Rattle.gs_run.specs.Fast.{fast_in}
 use Rattle.gs_run.specs.Net.{Net, params_of, place_of}
 use Rattle.gs_run.specs.Run.{first_refused, later_ends}
 use Rattle.gs_run.specs.Why.{why}
-use Rattle.gs_run.specs.World.{World, Sent, member, clocks_in, deliver, effect, advance_all, heard_member, member_at_start, sent_by, ticked_member, world_at_start}
+use Rattle.gs_run.specs.World.{World, Sent, member, clocks_in, deliver, effect, heard_member, member_at_start, sent_by, ticked_member, world_at_start}
 use Rattle.gs_run.specs.declared.refused.Refused.{Refused}
-use Rattle.gs_run.proofs.Keeping.{advance_count, quantum_is}
-use Rattle.gs_run.proofs.Refusals.{may_advance}
+use Rattle.gs_run.proofs.Keeping.{advanced_members}
+use Rattle.gs_run.proofs.Theorems.{clock_count}
 use Rattle.gs_audit.specs.inside.UnderWay.{IsUnderWay, IsNoQuantum}
 
 -- ---- the start
 
 start_count : (net : Net) (hw : List ℕ) (l0 : ℕ) → length (world_at_start net hw l0).members ≡ net.nodes
 start_count net hw l0 = length-map-range_with_len (λ v. member_at_start net v (slice_index hw v) l0) 0 net.nodes
-
-clock_count : (net : Net) (w : World) → length (clocks_in net w) ≡ length w.members
-clock_count net w = length-map w.members (λ m. clock_of net.rate m.node m.reading)
 
 pub audit_begins : (net : Net) (g : Graph) (hw : List ℕ) (l0 : ℕ) (all : List Event) (w : World) (tally : Tally) (clocks : List ℕ)
     → w ≡ world_at_start net hw l0 → clocks ≡ clocks_in net w → tally ≡ tally_of g (clocks ∷ []) → length all < 2 ^ 64
@@ -60,16 +56,6 @@ pub refused_here : (net : Net) (i : ℕ) (w : World) (e : Event) (left : List Ev
 refused_here net i w e left r some = rw some refl
 
 -- ---- an allowed quantum
-
-advanced_members : (net : Net) (w : World) (incs : List ℕ) → length w.members ≡ net.nodes
-    → why net w (Quantum incs) ≡ None
-    → (length (effect net w (Quantum incs)).members ≡ net.nodes) × ((effect net w (Quantum incs)).quanta ≡ w.quanta + 1)
-advanced_members net w incs members none =
-    let may = may_advance net w incs none in
-    let is : effect net w (Quantum incs) ≡ advance_all w incs = quantum_is net w incs members may in
-    let long = advance_count w incs in
-    let same = may.count in
-    (ap (λ (z : World). length z.members) is ∙ omega (arith, long, members, same), ap (λ (z : World). z.quanta) is)
 
 pub takes_quantum : (net : Net) (g : Graph) (start : World) (all left : List Event) (w : World) (incs : List ℕ) (old new : Tally)
     (clocks : List ℕ) (fast index : ℕ)

@@ -10,7 +10,7 @@ passed : (b : Bool) (x : BeaconFault) (y : Option BeaconFault) → cond b (Some 
 passed true x y e = absurd (cc)
 passed false x y e = (refl, e)
 
-is_not : (b : Bool) → not b ≡ false → b ≡ true
+pub is_not : (b : Bool) → not b ≡ false → b ≡ true
 is_not true e = refl
 is_not false e = absurd (let wrong : true ≡ false = e in cc)
 

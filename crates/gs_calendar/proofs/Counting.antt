@@ -1,13 +1,10 @@
 -- What ticks and hearing do to a member: ticks alone count and number beacons, hearing alone changes what was heard.
-use Rattle.std.proofs.Common.{◌≡◌, ◌≢◌, ℕ, ◌+◌, ◌<◌, ap, refl, ◌∙◌, List, [], ◌∷◌, length, map, Option, Some, None, Bool, true, false, nat_eq, slice_index, slice_set, if◌then◌else◌, length-set, get_or-set_same, get_or-set_other, not}
-use Rattle.std.specs.List.{position, prefix_len}
-use Rattle.std.proofs.lemmas.List.{length-map}
+use Rattle.std.proofs.Common.{◌≡◌, ◌≢◌, ℕ, ◌+◌, ◌<◌, ap, refl, ◌∙◌, List, [], ◌∷◌, length, map, Option, Some, None, Bool, true, false, slice_index, slice_set, if◌then◌else◌, length-set, get_or-set_same, get_or-set_other, not}
 use Rattle.gs_units.specs.declared.params.NodeParams.{NodeParams}
 use Rattle.gs_beacon.specs.declared.beacon.Beacon.{Beacon}
 use Rattle.gs_estimate.specs.Entries.{entry_at, is_fresh}
 use Rattle.gs_estimate.specs.declared.slots.Entry.{Entry}
 use Rattle.gs_core.specs.Node.{Node, delivered_at, freshened, link_at, link_place}
-use Rattle.gs_run.specs.Net.{Net, params_of, link_of, neighbours, place_of}
 use Rattle.gs_run.specs.World.{Member, Sent, heard_member, is_newer}
 use Rattle.gs_calendar.specs.Calendar.{Newest, newer}
 
@@ -71,17 +68,6 @@ hear_is_quiet p i s m =
 
 abbrev pub newest_in : Member → ℕ → Newest
 newest_in m i = record { quantum = slice_index m.heard i; seq = (entry_at m.node.entries i).seq }
-
--- the place of a link is that of its node
-prefix-map : {X Y : Type 0} (f : X → Y) (p : Y → Bool) (xs : List X) → prefix_len p (map f xs) ≡ prefix_len (λ x. p (f x)) xs
-prefix-map f p [] = refl
-prefix-map f p (x ∷ xs) = rw (prefix-map f p xs) refl
-
-position-map : {X Y : Type 0} (f : X → Y) (p : Y → Bool) (xs : List X) → position p (map f xs) ≡ position (λ x. p (f x)) xs
-position-map f p xs = rw (length-map xs f, prefix-map f (λ y. not (p y)) xs) refl
-
-pub link_place_is : (net : Net) (v x : ℕ) → link_place (params_of net v) x ≡ place_of net v x
-link_place_is net v x = position-map (link_of net v) (λ k. nat_eq k.node x) (neighbours net v)
 
 -- a member that has heard over the link at a place, where the beacon's sender has that place
 heard_by : (p : NodeParams) (i : ℕ) (s : Sent) (m : Member) → Bool → Member

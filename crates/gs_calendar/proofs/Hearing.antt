@@ -18,8 +18,9 @@ use Rattle.gs_calendar.specs.Course.{Course}
 use Rattle.gs_calendar.specs.Calendar.{Newest, newer, newest, none_heard, heard_at, ticks, arrivals}
 use Rattle.gs_calendar.specs.Events.{deliveries, deliveries_to, quantum_at}
 use Rattle.gs_calendar.proofs.Parts.{each_map, each_flat, each_weaker, each_any, each_kept, each_in_range, filter_split, others_before}
-use Rattle.gs_calendar.proofs.Counting.{newest_in, same_newest, link_place_is, hears_newer, hears_elsewhere}
+use Rattle.gs_calendar.proofs.Counting.{newest_in, same_newest, hears_newer, hears_elsewhere}
 use Rattle.gs_run.proofs.Written.{run_more, member_same}
+use Rattle.gs_run.proofs.Current.{link_place_is}
 use Rattle.gs_calendar.proofs.OneSeat.{IsDelivery, IsQuietWorld, all_elsewhere, run_is_quiet, begun, begun_member, listened, listened_member, ticked_if, quantum_member, elsewhere_keeps, are_deliveries, deliveries_from}
 use Rattle.gs_calendar.proofs.Agree.{HasMail, IsCalendar, Listens, begun_listens, quiet_listens, world_at, world_next, run_agrees, start_member}
 use Rattle.gs_calendar.proofs.Arrivals.{IsAged, Arrives, arrivals_are_aged, neighbour_has_place, place_is_inside}

@@ -1,8 +1,7 @@
 -- What a turn of a receiver does to its account.
-use Rattle.std.proofs.Common.{◌≡◌, ◌∙◌, ℕ, ◌≤◌, ◌+◌, inl, inr, List, [], ◌∷◌, ◌++◌, take, Bool, true, is_some, false, Option, Some, None, refl, sym, ap, subst, arith, append-nil}
-use Rattle.std.specs.List.{filter_map, sum_by, cons_option}
+use Rattle.std.proofs.Common.{◌≡◌, ◌∙◌, ℕ, ◌≤◌, ◌+◌, inl, inr, List, [], ◌∷◌, ◌++◌, take, true, is_some, false, Option, Some, None, refl, sym, ap, subst, arith, append-nil}
+use Rattle.std.specs.List.{filter_map, cons_option}
 use Rattle.std.proofs.lemmas.List.Elements.{filter_map-append}
-use Rattle.std.proofs.lemmas.List.Sums.{sum_by-append}
 use Rattle.gs_units.specs.declared.params.NodeParams.{NodeParams}
 use Rattle.gs_beacon.specs.declared.beacon.Beacon.{Beacon}
 use Rattle.gs_io.specs.Causes.{Rose}
@@ -17,7 +16,9 @@ use Rattle.gs_board.specs.Slips.{Slip, noted}
 use Rattle.gs_board.specs.declared.told.Receipt.{Receipt}
 use Rattle.gs_board.specs.declared.told.Told.{Told}
 use Rattle.gs_callers.specs.Wanted.{only_wanted, wanted_beacon}
-use Rattle.gs_callers.specs.Items.{datagrams, ends_in, is_quiet, is_wanted_item, one_datagram, one_if_none, one_unwanted, unwanted, wanted, wanted_item}
+use Rattle.gs_net.specs.Items.{datagrams, ends_in, is_quiet, one_datagram}
+use Rattle.gs_net.proofs.Taking.{ends_more, sum_more}
+use Rattle.gs_callers.specs.Items.{is_wanted_item, one_if_none, one_unwanted, unwanted, wanted, wanted_item}
 use Rattle.gs_callers.specs.Seats.{as_list, beacons_of, brought_by}
 use Rattle.gs_callers.specs.inside.Accounts.{Accounts, IsAccount}
 use Rattle.gs_callers.specs.inside.Reasons.{IsAfter, IsSettled, Stops}
@@ -34,14 +35,6 @@ wanted_more f items i = filter_map-append f items (i ∷ []) ∙ ap (λ (z : Lis
     one : (o : Option Beacon) → cons_option o [] ≡ as_list o
     one None = refl
     one (Some b) = refl
-
-sum_more : (f : Item → ℕ) (items : List Item) (i : Item) → sum_by f (items ++ i ∷ []) ≡ sum_by f items + f i
-sum_more f items i = sum_by-append f items (i ∷ []) ∙ omega arith
-
-ends_more : (test : Item → Bool) (items : List Item) (i : Item) → ends_in test (items ++ i ∷ []) ≡ test i
-ends_more test [] i = refl
-ends_more test (x ∷ []) i = refl
-ends_more test (x ∷ y ∷ items) i = ends_more test (y ∷ items) i
 
 -- the beacons of a seat that was told of a delivery
 pub delivered_more : (s t : Slip) (r : Receipt Heard) (b : Beacon) (now : ℕ) → t ≡ noted s (record { place = r.place; event = r.event; ticked = None }) → r.event ≡ Deliver now b

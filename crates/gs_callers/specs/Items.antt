@@ -1,19 +1,11 @@
--- The items that came from an inlet.
-use Rattle.std.specs.Prelude.{ℕ, Bool, true, false, is_some, List, [], ◌∷◌, Option, Some, None}
+-- Which of the items that came from an inlet are wanted.
+use Rattle.std.specs.Prelude.{ℕ, Bool, is_some, List, Option, Some, None}
 use Rattle.std.specs.List.{filter_map, sum_by}
 use Rattle.gs_units.specs.declared.params.NodeParams.{NodeParams}
 use Rattle.gs_beacon.specs.declared.beacon.Beacon.{Beacon}
 use Rattle.gs_net.specs.declared.items.Item.{Item}
 use Rattle.gs_net.specs.declared.items.Item.TheVariants.{Datagram, Quiet}
 use Rattle.gs_callers.specs.Wanted.{wanted_beacon}
-
-abbrev pub one_datagram : Item → ℕ
-one_datagram Quiet = 0
-one_datagram (Datagram bytes) = 1
-
--- how many datagrams there are
-abbrev pub datagrams : List Item → ℕ
-datagrams items = sum_by one_datagram items
 
 -- the beacon of an item, where it is a wanted datagram
 abbrev pub wanted_item : NodeParams → ℕ → Item → Option Beacon
@@ -35,16 +27,6 @@ one_unwanted p neighbour (Datagram bytes) = one_if_none (wanted_beacon p neighbo
 -- how many datagrams are not wanted
 abbrev pub unwanted : NodeParams → ℕ → List Item → ℕ
 unwanted p neighbour items = sum_by (one_unwanted p neighbour) items
-
--- the last of the items passes this test
-abbrev pub ends_in : (Item → Bool) → List Item → Bool
-ends_in test [] = false
-ends_in test (item ∷ []) = test item
-ends_in test (item ∷ next ∷ items) = ends_in test (next ∷ items)
-
-abbrev pub is_quiet : Item → Bool
-is_quiet Quiet = true
-is_quiet (Datagram bytes) = false
 
 abbrev pub is_wanted_item : NodeParams → ℕ → Item → Bool
 is_wanted_item p neighbour item = is_some (wanted_item p neighbour item)

@@ -9,7 +9,8 @@ use Rattle.gs_net.specs.Tales.{Tale}
 use Rattle.gs_net.specs.declared.items.Item.{Item}
 use Rattle.gs_board.specs.Slips.{Slip}
 use Rattle.gs_board.specs.declared.told.Told.{Told}
-use Rattle.gs_callers.specs.Items.{datagrams, ends_in, is_quiet, is_wanted_item, unwanted, wanted}
+use Rattle.gs_net.specs.Items.{datagrams, ends_in, is_quiet}
+use Rattle.gs_callers.specs.Items.{is_wanted_item, unwanted, wanted}
 
 -- the beacon that an event brings
 abbrev pub brought_by : NodeEvent → Option Beacon

@@ -1,3 +1,4 @@
+pub mod Items
 pub mod Lending
 pub mod Memory
 pub mod Pools

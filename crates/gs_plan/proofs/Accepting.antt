@@ -1,10 +1,11 @@
 -- What holds of a plan without a fault.
 use Rattle.std.proofs.Common.{◌≡◌, ℕ, ◌+◌, ◌*◌, ◌≤◌, ◌^◌, ◌||◌, ◌++◌, arith, refl, nat_lt, not, cond, Bool, true, false, List, [], ◌∷◌, All, Option, Some, None, unwrap_or, length, map, is_some, slice_index_or}
 use Rattle.std.specs.List.{find, list_any}
-use Rattle.std.specs.Option.{option_map_or, option_or}
+use Rattle.std.specs.Option.{option_map_or}
 use Rattle.std.proofs.lemmas.Bool.{leb-false, ltb-false}
 use Rattle.std.proofs.lemmas.List.Elements.{All-cons, All-head, All-map, All-nil, All-tail}
 use Rattle.gs_topo.specs.Graph.{Graph, adjacent, joins}
+use Rattle.gs_topo.proofs.Sound.{none_of}
 use Rattle.gs_planfile.specs.declared.text.EdgeSpan.{EdgeSpan}
 use Rattle.gs_planfile.specs.declared.text.PlanText.{PlanText}
 use Rattle.gs_planfile.specs.declared.text.Version.{Version}
@@ -17,11 +18,6 @@ use Rattle.gs_plan.specs.Edges.{edge_given, own_given, span_between, span_given}
 use Rattle.gs_plan.specs.Faults.{are_bad_delays, are_bad_ports, are_low_kappas, beacon_bound, fault_if, fault_over, is_bad_span, is_low_kappa, is_one, is_outside, is_wide, span_fault}
 use Rattle.gs_plan.specs.Numbers.{least_kappa_in, q_in, r_in}
 use Rattle.gs_plan.proofs.Keeping.{each_below}
-
--- no fault is the first of two where neither is one
-pub none_of : {X : Type 0} (x y : Option X) → option_or x y ≡ None → (x ≡ None) × (y ≡ None)
-none_of None y h = (refl, h)
-none_of (Some x) y h = cc
 
 -- a test that gives no fault fails
 pub passes : (test : Bool) (f : PlanFault) → fault_if test f ≡ None → test ≡ false

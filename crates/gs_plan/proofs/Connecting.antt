@@ -9,7 +9,8 @@ use Rattle.gs_topo.specs.Walks.{IsTopology, IsWalk, has_walk, least_from, one_ea
 use Rattle.gs_topo.proofs.Distances.{IsConnected, both_ways, walk-from_has_walk}
 use Rattle.gs_topo.proofs.Sound.{is_graph}
 use Rattle.gs_topo.proofs.Walks.{turned, walk_append}
-use Rattle.gs_plan.proofs.Accepting.{neither, none_of}
+use Rattle.gs_topo.proofs.Sound.{none_of}
+use Rattle.gs_plan.proofs.Accepting.{neither}
 
 -- no number passes a test where none is found
 fails_all : (test : ℕ → Bool) (from n : ℕ) → least_from test from n ≡ None → (t : ℕ) → from ≤ t → t < from + n → test t ≡ false

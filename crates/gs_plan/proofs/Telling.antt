@@ -31,7 +31,8 @@ use Rattle.gs_plan.specs.inside.Kept.{AreWords}
 use Rattle.gs_plan.specs.Nodes.{link_in, link_over}
 use Rattle.gs_plan.specs.Numbers.{drift_in, iota_in}
 use Rattle.gs_plan.specs.Shapes.{graph_of_text, shape_edges, shape_nodes}
-use Rattle.gs_plan.proofs.Accepting.{accepted_of, none_of}
+use Rattle.gs_topo.proofs.Sound.{none_of}
+use Rattle.gs_plan.proofs.Accepting.{accepted_of}
 use Rattle.gs_plan.proofs.Connecting.{no_fault_is_graph, no_map}
 use Rattle.gs_plan.proofs.Keeping.{all_words}
 use Rattle.gs_plan.proofs.Linking.{has_number, text_at}

@@ -1,6 +1,6 @@
 -- A trace is written event by event.
-use Rattle.std.proofs.Common.{◌≡◌, ℕ, zero, suc, ◌+◌, ◌<◌, ◌≤◌, ◌^◌, inl, inr, List, [], ◌∷◌, ◌++◌, length, take, Option, Some, None, refl, sym, ap, ◌∙◌, subst, append_assoc, append-nil, arith, map, replicate}
-use Rattle.std.specs.List.{flat_map, range_with_len}
+use Rattle.std.proofs.Common.{◌≡◌, ℕ, ◌+◌, ◌≤◌, ◌^◌, inl, inr, List, [], ◌∷◌, ◌++◌, length, take, Option, Some, None, refl, sym, ap, ◌∙◌, subst, append_assoc, append-nil, arith, replicate}
+use Rattle.std.specs.List.{flat_map}
 use Rattle.std.specs.Option.{option_or}
 use Rattle.std.proofs.Math.Seq.{take-append_seam}
 use Rattle.std.proofs.lemmas.List.{length-replicate}
@@ -50,11 +50,6 @@ none_is_front None text = (0, tt)
 none_is_front (Some xs) text = (0, ap Some (sym (append-nil xs)))
 
 -- ---- the start
-
--- all readings are 0
-pub zeros_are : (a n : ℕ) → replicate {A = ℕ} n 0 ≡ map (λ v. 0) (range_with_len a n)
-zeros_are a zero = refl
-zeros_are a (suc n) = ap (λ (l : List ℕ). 0 ∷ l) (zeros_are (a + 1) n)
 
 pub zeros_fit : (n : ℕ) → FitsWorld n (start_at_0 n)
 zeros_fit n = record {

@@ -7,7 +7,7 @@ use Rattle.gs_net.specs.declared.items.Item.{Item}
 use Rattle.gs_net.specs.declared.items.Item.TheVariants as item
 use Rattle.gs_net.specs.declared.items.Got.TheVariants.{Datagram, Ended, Quiet}
 use Rattle.gs_respond.specs.Doors.{IsAnswerOf, never_falls, owing, requests}
-use Rattle.gs_respond.specs.Items.{datagrams}
+use Rattle.gs_net.specs.Items.{datagrams}
 use Rattle.gs_respond.specs.TimeRequests.{Tells, answer_bytes, asked_in, asked_of, clock_in}
 use Rattle.gs_respond.specs.inside.Accounts.{Answered, Counted, Goes, IsAnswered, Replies}
 use Rattle.gs_respond.proofs.Rising.{rises_to, rises_twice}

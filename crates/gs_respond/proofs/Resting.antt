@@ -3,13 +3,14 @@ use Rattle.std.proofs.Common.{◌≡◌, ◌∙◌, ℕ, ◌<◌, ◌≤◌, ◌
 use Rattle.gs_net.specs.Tales.{Moves, Tale}
 use Rattle.gs_net.specs.declared.items.Item.TheVariants as item
 use Rattle.gs_net.specs.declared.items.Got.TheVariants.{Datagram, Ended, Quiet}
-use Rattle.gs_respond.specs.Items.{datagrams, ends_in, is_quiet}
+use Rattle.gs_net.specs.Items.{datagrams, ends_in, is_quiet}
 use Rattle.gs_respond.specs.inside.Accounts.{Counted}
 use Rattle.gs_respond.specs.inside.Stops.{IsLater, IsReplied, Rests}
 use Rattle.gs_respond.specs.declared.rests.Rest.{Rest}
 use Rattle.gs_respond.specs.declared.rests.Rest.TheVariants as rest
 use Rattle.gs_respond.proofs.Accounting.{some_same}
-use Rattle.gs_respond.proofs.Taking.{ends_more, one_datagram_more}
+use Rattle.gs_net.proofs.Taking.{ends_more}
+use Rattle.gs_respond.proofs.Taking.{one_datagram_more}
 
 pub rests_open : (tale : Option Tale) (owed : Option ℕ) (door clock : ℕ) → Rests rest.Open tale owed door clock
 rests_open tale owed door clock = record { ended = λ e. absurd (cc); quiet = λ e. absurd (cc); many = λ e. absurd (cc); clock_failed = λ e. absurd (cc); door_failed = λ e. absurd (cc) }

@@ -1,5 +1,5 @@
 -- One item more.
-use Rattle.std.proofs.Common.{◌≡◌, ◌≢◌, ◌∙◌, ℕ, ◌≤◌, ◌+◌, min, Option, Some, None, List, [], ◌∷◌, ◌++◌, length, take, ap, sym, refl, arith, Bool, length-take, inl, inr}
+use Rattle.std.proofs.Common.{◌≡◌, ◌≢◌, ◌∙◌, ℕ, ◌≤◌, ◌+◌, min, Option, Some, None, List, [], ◌∷◌, ◌++◌, length, take, ap, sym, refl, arith, length-take, inl, inr}
 use Rattle.std.specs.List.{cons_option}
 use Rattle.std.proofs.lemmas.List.{take_all}
 use Rattle.std.proofs.lemmas.List.Elements.{filter_map-append}
@@ -8,7 +8,8 @@ use Rattle.std.proofs.lemmas.Bool.Decides.{nat_tests}
 use Rattle.gs_net.specs.declared.items.Item.{Item}
 use Rattle.gs_net.specs.declared.items.Item.TheVariants as item
 use Rattle.gs_respond.specs.Doors.{asked_by, owing, requests}
-use Rattle.gs_respond.specs.Items.{datagrams, ends_in}
+use Rattle.gs_net.specs.Items.{datagrams, one_datagram}
+use Rattle.gs_net.proofs.Taking.{sum_more}
 use Rattle.gs_respond.specs.TimeRequests.{asked_of}
 
 -- what is not 16 bytes long is no request
@@ -34,16 +35,7 @@ requests_more items i = filter_map-append asked_by items (i ∷ []) ∙ ap (λ (
     one (Some id) = refl
 
 pub one_datagram_more : (items : List Item) (bytes : List ℕ) → datagrams (items ++ item.Datagram bytes ∷ []) ≡ datagrams items + 1
-one_datagram_more [] bytes = refl
-one_datagram_more (item.Quiet ∷ items) bytes = one_datagram_more items bytes
-one_datagram_more (item.Datagram first ∷ items) bytes = ap (λ (n : ℕ). n + 1) (one_datagram_more items bytes)
+one_datagram_more items bytes = sum_more one_datagram items (item.Datagram bytes)
 
 pub no_datagram_more : (items : List Item) → datagrams (items ++ item.Quiet ∷ []) ≡ datagrams items
-no_datagram_more [] = refl
-no_datagram_more (item.Quiet ∷ items) = no_datagram_more items
-no_datagram_more (item.Datagram first ∷ items) = ap (λ (n : ℕ). n + 1) (no_datagram_more items)
-
-pub ends_more : (test : Item → Bool) (items : List Item) (i : Item) → ends_in test (items ++ i ∷ []) ≡ test i
-ends_more test [] i = refl
-ends_more test (x ∷ []) i = refl
-ends_more test (x ∷ y ∷ items) i = ends_more test (y ∷ items) i
+no_datagram_more items = sum_more one_datagram items item.Quiet ∙ omega arith

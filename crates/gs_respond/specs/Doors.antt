@@ -4,7 +4,7 @@ use Rattle.std.specs.List.{filter_map}
 use Rattle.gs_net.specs.Tales.{Tale}
 use Rattle.gs_net.specs.declared.items.Item.{Item}
 use Rattle.gs_net.specs.declared.items.Item.TheVariants as item
-use Rattle.gs_respond.specs.Items.{datagrams, ends_in, is_quiet}
+use Rattle.gs_net.specs.Items.{datagrams, ends_in, is_quiet}
 use Rattle.gs_respond.specs.TimeRequests.{answer_bytes, asked_in, asked_of, clock_in}
 
 -- the number that an item asks with, if it is a request

@@ -1,6 +1,5 @@
 pub mod TimeRequests
 pub mod TimeLaws
-pub mod Items
 pub mod Doors
 pub mod Rests
 pub mod inside

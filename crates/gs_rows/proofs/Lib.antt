@@ -3,3 +3,4 @@ pub mod Staging
 pub mod Fields
 pub mod Keeping
 pub mod Reports
+pub mod Stopping

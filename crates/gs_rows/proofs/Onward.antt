@@ -1,5 +1,5 @@
 -- A play goes on, one event at a time.
-use Rattle.std.proofs.Common.{◌≡◌, ℕ, ◌+◌, arith, ap, refl, ◌∙◌, sym, List, [], ◌∷◌, ◌++◌, length, Option, Some, None, is_some, true, IfSome, subst, length-set}
+use Rattle.std.proofs.Common.{◌≡◌, ℕ, ◌+◌, arith, ap, refl, ◌∙◌, sym, List, [], ◌∷◌, length, Option, Some, None, is_some, true, IfSome, subst, length-set}
 use Rattle.std.specs.Option.{option_or}
 use Rattle.gs_core.specs.declared.event.Event.{Event}
 use Rattle.gs_core.specs.declared.event.Event.TheVariants.{Quantum, Tick, Deliver}
@@ -7,10 +7,9 @@ use Rattle.gs_plan.specs.declared.plan.Plan.{Plan}
 use Rattle.gs_run.specs.Net.{Net, params_of, place_of}
 use Rattle.gs_run.specs.Nets.{net_of}
 use Rattle.gs_run.specs.Why.{why}
-use Rattle.gs_run.specs.World.{World, Sent, member, clocks_in, deliver, effect, advance_all, sent_by, ticked_member}
+use Rattle.gs_run.specs.World.{World, Sent, member, clocks_in, deliver, effect, sent_by, ticked_member}
 use Rattle.gs_run.specs.declared.refused.Refused.{Refused}
-use Rattle.gs_run.proofs.Keeping.{advance_count, quantum_is}
-use Rattle.gs_run.proofs.Refusals.{may_advance}
+use Rattle.gs_run.proofs.Keeping.{advanced_members}
 use Rattle.gs_calendar.specs.Breach.{breach_of, first_breach}
 use Rattle.gs_calendar.specs.Calm.{Calm}
 use Rattle.gs_calendar.proofs.OneSeat.{IsQuietWorld, run_is_quiet}
@@ -38,21 +37,11 @@ delivered_clocks net w to None (Some s) = refl
 delivered_clocks net w to (Some i) None = refl
 delivered_clocks net w to (Some i) (Some s) = clocks_heard net w to i s
 
--- an allowed quantum
-advanced : (net : Net) (w : World) (incs : List ℕ) → length w.members ≡ net.nodes → why net w (Quantum incs) ≡ None
-    → (length (effect net w (Quantum incs)).members ≡ net.nodes) × ((effect net w (Quantum incs)).quanta ≡ w.quanta + 1)
-advanced net w incs members none =
-    let may = may_advance net w incs none in
-    let is : effect net w (Quantum incs) ≡ advance_all w incs = quantum_is net w incs members may in
-    let long = advance_count w incs in
-    let same = may.count in
-    (ap (λ (z : World). length z.members) is ∙ omega (arith, long, members, same), ap (λ (z : World). z.quanta) is)
-
 -- one event more
 pub takes : (net : Net) (w z : World) (left rest : List Event) (e : Event) → GoesOn net w left None z (e ∷ rest)
     → why net z e ≡ None → GoesOn net w left (fast_taken z e) (effect net z e) rest
 takes net w z left rest (Quantum incs) h none =
-    let shape = advanced net z incs h.members none in
+    let shape = advanced_members net z incs h.members none in
     let quanta = h.quanta in
     let more = shape.1 in
     record {

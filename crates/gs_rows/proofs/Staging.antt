@@ -1,5 +1,5 @@
 -- The rows of a script from any clocks: where it begins, how it goes on, and where it ends.
-use Rattle.std.proofs.Common.{◌≡◌, ℕ, zero, suc, ◌+◌, ◌<◌, ◌≤◌, ◌^◌, arith, ap, refl, ◌∙◌, sym, List, [], ◌∷◌, ◌++◌, length, filter, map, Some, None, append_assoc, length-append, All, get_or, replicate, slice_index}
+use Rattle.std.proofs.Common.{◌≡◌, ℕ, zero, suc, ◌+◌, ◌<◌, ◌^◌, arith, ap, refl, ◌∙◌, sym, List, [], ◌∷◌, ◌++◌, length, filter, map, Some, None, append_assoc, length-append, All, get_or, slice_index}
 use Rattle.std.proofs.Math.Seq.{get_or-append_seam}
 use Rattle.std.specs.List.{AllByRecursion, range_with_len}
 use Rattle.std.proofs.lemmas.List.{get_or-map, length-map}
@@ -219,11 +219,6 @@ pub answered_below : (q : Plan) (w : World) (clocks : List ℕ) → IsReachable 
 answered_below q w clocks r is = rw is (clocks_below q w r)
 
 -- ---- the start where all clocks are 0
-
--- a list of zeros
-pub zeros_are : (a n : ℕ) → replicate {A = ℕ} n 0 ≡ map (λ v. 0) (range_with_len a n)
-zeros_are a zero = refl
-zeros_are a (suc n) = ap (λ (l : List ℕ). 0 ∷ l) (zeros_are (a + 1) n)
 
 zero_at : (xs : List ℕ) (v : ℕ) → slice_index (map (λ x. 0) xs) v ≡ 0
 zero_at [] zero = refl

@@ -23,7 +23,7 @@ not_behind c e l h = omega (arith, ints, h)
 behind_by : (c d e l : ℕ) → e + c ≤ l + d → (pos e -ℤ pos l) ≤ℤ (pos d -ℤ pos c)
 behind_by c d e l h = omega (arith, ints, h)
 
-not_ahead : (c e l : ℕ) → e ≤ l + c → (pos e -ℤ pos l) ≤ℤ pos c
+pub not_ahead : (c e l : ℕ) → e ≤ l + c → (pos e -ℤ pos l) ≤ℤ pos c
 not_ahead c e l h = omega (arith, ints, h)
 
 -- ---- what a decision saw, against the clocks at the end of the quantum that uses it

@@ -361,3 +361,14 @@ before_quantum {net} keeps before x (Deliver from to seq ∷ es) run t low high 
     let quanta = ap (λ (z : World). z.quanta) (arrives net x.world from to seq run.allowed.0).2.is in
     before_quantum keeps before (watch net x (Deliver from to seq)) es (deliver_goes_on keeps run) t
     (omega (arith, quanta, low)) high
+
+-- an allowed quantum keeps the members, and is one quantum more
+pub advanced_members : (net : Net) (w : World) (incs : List ℕ) → length w.members ≡ net.nodes
+    → why net w (Quantum incs) ≡ None
+    → (length (effect net w (Quantum incs)).members ≡ net.nodes) × ((effect net w (Quantum incs)).quanta ≡ w.quanta + 1)
+advanced_members net w incs members none =
+    let may = may_advance net w incs none in
+    let is : effect net w (Quantum incs) ≡ advance_all w incs = quantum_is net w incs members may in
+    let long = advance_count w incs in
+    let same = may.count in
+    (ap (λ (z : World). length z.members) is ∙ omega (arith, long, members, same), ap (λ (z : World). z.quanta) is)

@@ -29,3 +29,4 @@ pub mod PlanBounds
 pub mod Written
 pub mod Rising
 pub mod Reasons
+pub mod Zeros

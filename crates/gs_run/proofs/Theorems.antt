@@ -23,7 +23,7 @@ pub clock_at : (net : Net) (w : World) (v : ℕ) → v < length w.members
     → slice_index (clocks_in net w) v ≡ clock_in net w v
 clock_at net w v hv = get_or-map (λ m. clock_of net.rate m.node m.reading) w.members v nobody 0 hv
 
-clock_count : (net : Net) (w : World) → length (clocks_in net w) ≡ length w.members
+pub clock_count : (net : Net) (w : World) → length (clocks_in net w) ≡ length w.members
 clock_count net w = length-map w.members (λ m. clock_of net.rate m.node m.reading)
 
 -- Clocks that are those of a row are bounded.

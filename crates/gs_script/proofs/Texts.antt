@@ -1,18 +1,11 @@
 -- Which fields are UTF-8.
-use Rattle.std.proofs.Common.{◌≡◌, ◌∙◌, ◌<◌, ◌+◌, ℕ, zero, suc, List, [], ◌∷◌, length, take, get_or, Some, Bool, true, false, refl, arith}
-use Rattle.std.specs.Prelude.{IsUtf8}
+use Rattle.std.proofs.Common.{◌≡◌, ◌∙◌, ◌<◌, ◌+◌, ℕ, zero, suc, List, [], ◌∷◌, length, take, get_or, Some, true, false, refl, arith}
 use Rattle.std.specs.Str.{is_utf8}
 use Rattle.std.specs.List.{list_all}
 use Rattle.std.proofs.lemmas.List.Folds.{list_all_at, list_all_more}
-use Rattle.std.proofs.lemmas.Str.{is_utf8-from_IsUtf8, IsUtf8-from_is_utf8}
+use Rattle.std.proofs.lemmas.Str.{is_utf8-from_IsUtf8}
 use Rattle.csv.specs.Records.{field_at}
-
-false_of : (b : Bool) → ¬ (b ≡ true) → b ≡ false
-false_of true h = absurd (h refl)
-false_of false h = refl
-
-pub is_utf8-false : (bs : List ℕ) → ¬ IsUtf8 bs → is_utf8 bs ≡ false
-is_utf8-false bs h = false_of (is_utf8 bs) (λ e. h (IsUtf8-from_is_utf8 bs e))
+use Rattle.gs_planfile.proofs.Views.{is_utf8-false}
 
 -- the field at a place that is there
 pub field_at-within : (fs : List (List ℕ)) (i : ℕ) → i < length fs → field_at fs i ≡ Some (get_or fs i [])

@@ -23,9 +23,6 @@ use Rattle.gs_run.proofs.Moments.{row_members, whole_run}
 use Rattle.gs_run.proofs.PlanNumbers.{level_is, plan_has_numbers}
 use Rattle.gs_calendar.specs.Course.{course_of}
 use Rattle.gs_calendar.specs.Events.{events_of}
-use Rattle.gs_calendar.specs.Scripts.{breach_of_script}
-use Rattle.gs_calendar.specs.Stops.{StopsAt}
-use Rattle.gs_calendar.specs.declared.stop.PlayStop.{PlayStop}
 use Rattle.gs_rows.specs.Row.{Row, fast_upto, row_at, rows_of_script, start_from, zeros_of}
 use Rattle.gs_rows.specs.Stage.{IsOver, Stage, row_now}
 use Rattle.gs_rows.proofs.Keeping.{rows_are}
@@ -85,12 +82,6 @@ more_fast rows t next fast more new is before row sum =
     ∙ ap (λ (u : ℕ). fast_upto rows u) (sym e)
 
 -- ---- a stage of the play
-
-pub stops_here : (p : Plan) (said : Said) (x : Stage) (stop : PlayStop) → x.plan ≡ p → x.said ≡ said
-    → StopsAt (breach_of_script x.plan x.said) stop → StopsAt (breach_of_script p said) stop
-stops_here p said x stop plan is at =
-    subst (λ (r : Said). StopsAt (breach_of_script p r) stop) is
-    (subst (λ (q : Plan). StopsAt (breach_of_script q x.said) stop) plan at)
 
 pub row_here : (p : Plan) (said : Said) (gamma : ℕ) (x : Stage) → x.plan ≡ p → x.said ≡ said → x.l0s ≡ first_clocks gamma (graph_of p).nodes
     → row_now x ≡ row_at (rows_from_gamma p said gamma) x.quanta
@@ -188,10 +179,6 @@ are_in_time p said gamma allowed = λ s hs.
           ]
 
 -- ---- where all is played
-
-pub unbreached_here : (p : Plan) (said : Said) (x : Stage) → x.plan ≡ p → x.said ≡ said → IsOver x → breach_of_script p said ≡ None
-unbreached_here p said x plan same over =
-    sym (ap (λ (q : Plan). breach_of_script q x.said) plan ∙ ap (λ (r : Said). breach_of_script p r) same) ∙ over.breach
 
 pub allowed_here : (p : Plan) (said : Said) (gamma : ℕ) (x : Stage) → x.plan ≡ p → x.said ≡ said → x.l0s ≡ first_clocks gamma (graph_of p).nodes
     → IsOver x → Allowed (net_of p) (start_from (net_of p) (first_clocks gamma (graph_of p).nodes)) (events_of (net_of p) (course_of said))

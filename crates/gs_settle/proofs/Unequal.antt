@@ -2,7 +2,6 @@
 use Rattle.std.proofs.Common.{◌≡◌, ℕ, zero, suc, ◌+◌, ◌-◌, ◌*◌, ◌<◌, ◌≤◌, ◌⊎◌, inl, inr, arith, ap, sym, ◌∙◌, pos, ◌≤ℤ◌, ◌-ℤ◌, List, [], ◌∷◌, length, slice_index_or, subst}
 use Rattle.std.proofs.Math.Nat.{mul-le-mul_left, mul-le-mul_right}
 use Rattle.std.proofs.lemmas.Bool.{cases_lt}
-use Rattle.std.proofs.lemmas.Int.{ints}
 use Rattle.gs_units.specs.Rates.{steer_of, g_of, q_of, r_of}
 use Rattle.gs_units.specs.declared.rate.Mode.{Mode}
 use Rattle.gs_units.specs.declared.rate.Mode.TheVariants.{Slow, Fast}
@@ -18,7 +17,7 @@ use Rattle.gs_steer.proofs.Deciding.{fast_far_behind, slow_near_maximum}
 use Rattle.gs_skew.proofs.Extremes.{greatest_below}
 use Rattle.gs_run.specs.Accepted.{AreNumbers}
 use Rattle.gs_run.specs.Net.{Net, Adjacent, neighbours, neighbour, link_of, delta_of, iota_of, lambda_of, skew_of}
-use Rattle.gs_run.proofs.Conditions.{least_not_slow, sights_are_seen}
+use Rattle.gs_run.proofs.Conditions.{least_not_slow, sights_are_seen, not_ahead}
 use Rattle.gs_run.proofs.Estimates.{beacon_is_close, within_budget}
 use Rattle.gs_run.proofs.Greatest.{AreBelow, TellsOf, near_maximum, told_step}
 use Rattle.gs_run.proofs.History.{Estimates, IsHistory, Steers}
@@ -76,9 +75,6 @@ seen_low net last row reading most h t v x estimate ht hv hx greatest s e = elim
       let value = start.0 in
       omega (arith, c, is, value, zero_reading, order)
 ]
-
-not_ahead : (c e l : ℕ) → e ≤ l + c → (pos e -ℤ pos l) ≤ℤ pos c
-not_ahead c e l h = omega (arith, ints, h)
 
 -- this estimate of each neighbour was seen, and is not far ahead
 abbrev AreLow : Net → ℕ → ℕ → List Sight → Type 0

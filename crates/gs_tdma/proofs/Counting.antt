@@ -1,5 +1,5 @@
 -- What is counted of a play under way, and what it keeps.
-use Rattle.std.proofs.Common.{◌≡◌, ℕ, zero, suc, ◌+◌, ◌<◌, ◌≤◌, arith, ap, ◌∙◌, sym, subst, List, length, map, replicate, All, Bool, true, false, if◌then◌else◌, get_or, slice_index, None}
+use Rattle.std.proofs.Common.{◌≡◌, ℕ, zero, suc, ◌+◌, ◌<◌, ◌≤◌, arith, ap, ◌∙◌, sym, subst, List, length, map, replicate, All, Bool, true, false, if◌then◌else◌, get_or, slice_index}
 use Rattle.std.specs.List.{range_with_len}
 use Rattle.std.proofs.lemmas.List.{get_or-replicate, length-replicate}
 use Rattle.std.proofs.lemmas.Grind.{same_number_lists}
@@ -9,9 +9,6 @@ use Rattle.gs_plan.specs.Plans.{graph_of}
 use Rattle.gs_plan.specs.declared.plan.Plan.{Plan}
 use Rattle.gs_script.specs.Script.{Said}
 use Rattle.gs_run.specs.Nets.{net_of}
-use Rattle.gs_calendar.specs.Scripts.{breach_of_script}
-use Rattle.gs_calendar.specs.Stops.{StopsAt}
-use Rattle.gs_calendar.specs.declared.stop.PlayStop.{PlayStop}
 use Rattle.gs_rows.specs.Row.{Row, clock_at, row_at, rows_of_script, zeros_of}
 use Rattle.gs_rows.specs.Stage.{IsOver, Stage, row_now}
 use Rattle.gs_rows.proofs.Keeping.{script_is_steady}
@@ -72,12 +69,6 @@ more_sent s rows n t next row old new h is clocks long counted =
 
 -- ---- a stage of the play
 
-pub stops_here : (p : Plan) (said : Said) (x : Stage) (stop : PlayStop) → x.plan ≡ p → x.said ≡ said
-    → StopsAt (breach_of_script x.plan x.said) stop → StopsAt (breach_of_script p said) stop
-stops_here p said x stop plan is at =
-    subst (λ (r : Said). StopsAt (breach_of_script p r) stop) is
-    (subst (λ (q : Plan). StopsAt (breach_of_script q x.said) stop) plan at)
-
 pub row_here : (p : Plan) (said : Said) (x : Stage) (row : List ℕ) → x.plan ≡ p → x.said ≡ said → x.l0s ≡ zeros_of (net_of p)
     → row ≡ (row_now x).clocks → row ≡ (row_at (play_rows p said) x.quanta).clocks
 row_here p said x row plan same zeros is =
@@ -94,10 +85,6 @@ over_here p said x plan same zeros over =
     (subst (λ (q : Plan). IsOver (record { plan = q; said = x.said; l0s = x.l0s; quanta = x.quanta })) plan over))
 
 -- ---- where all is played
-
-pub unbreached_here : (p : Plan) (said : Said) (x : Stage) → x.plan ≡ p → x.said ≡ said → IsOver x → breach_of_script p said ≡ None
-unbreached_here p said x plan same over =
-    sym (ap (λ (q : Plan). breach_of_script q x.said) plan ∙ ap (λ (r : Said). breach_of_script p r) same) ∙ over.breach
 
 pub is_sent : (p : Plan) (said : Said) (s : Slots) (x : Stage) (sent : List ℕ) → x.said ≡ said → IsOver x
     → AreSent s (play_rows p said) (graph_of p).nodes x.quanta sent → sent ≡ sent_of p said s

@@ -1,6 +1,6 @@
 -- What the results of if-chains say of their tests.
 use Rattle.std.proofs.Common.{◌≡◌, ℕ, Bool, true, false, cond, ◌⊎◌, inl, inr, Option, Some, None, refl}
-use Rattle.std.specs.Prelude.{◌||◌, not, is_some}
+use Rattle.std.specs.Prelude.{◌||◌, is_some}
 use Rattle.std.specs.Option.{option_or}
 
 -- a chain of faults that gives none went past its first test
@@ -16,10 +16,6 @@ chosen false x y z e = inr (refl, e)
 pub neither : (a b : Bool) → (a || b) ≡ false → (a ≡ false) × (b ≡ false)
 neither true b e = absurd (let wrong : true ≡ false = e in cc)
 neither false b e = (refl, e)
-
-pub is_not : (b : Bool) → not b ≡ false → b ≡ true
-is_not true e = refl
-is_not false e = absurd (let wrong : true ≡ false = e in cc)
 
 pub none_some : {A : Type 0} (o : Option A) → is_some o ≡ false → o ≡ None
 none_some None e = refl

@@ -6,11 +6,12 @@ use Rattle.std.proofs.lemmas.List.{length-append}
 use Rattle.byteorder.specs.Endian.{big_bytes, big_number}
 use Rattle.gs_beacon.specs.Numbers.{AreBytes, number_at}
 use Rattle.gs_beacon.proofs.Digits.{number_at-behind, big_bytes-number_at}
+use Rattle.gs_beacon.proofs.Faults.{is_not}
 use Rattle.gs_trace.specs.Starts.{FitsNode}
 use Rattle.gs_trace.specs.Nodes.{head_bytes, head_fault, start_at, tag}
 use Rattle.gs_trace.specs.declared.fault.TraceFault.TheVariants.{Header, Plan}
 use Rattle.gs_trace.specs.declared.start.NodeStart.{NodeStart}
-use Rattle.gs_trace.proofs.Choices.{is_not, neither, none_if}
+use Rattle.gs_trace.proofs.Choices.{neither, none_if}
 use Rattle.gs_trace.proofs.Traces.{Head, IsHead}
 use Rattle.gs_trace.proofs.WorldHeads.{five_parts}
 

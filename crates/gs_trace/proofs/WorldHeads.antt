@@ -9,12 +9,13 @@ use Rattle.std.proofs.lemmas.List.Elements.{All-from_recursion, recursion_from_A
 use Rattle.byteorder.specs.Endian.{big_bytes, big_number}
 use Rattle.gs_beacon.specs.Numbers.{AreBytes, number_at}
 use Rattle.gs_beacon.proofs.Digits.{number_at-behind, big_bytes-number_at}
+use Rattle.gs_beacon.proofs.Faults.{is_not}
 use Rattle.gs_trace.specs.Numbers.{spelled, numbers_at}
 use Rattle.gs_trace.specs.Starts.{FitsWorld}
 use Rattle.gs_trace.specs.Worlds.{head_bytes, head_fault, head_length, is_far, start_at, tag}
 use Rattle.gs_trace.specs.declared.fault.TraceFault.TheVariants.{Header, Plan}
 use Rattle.gs_trace.specs.declared.start.WorldStart.{WorldStart}
-use Rattle.gs_trace.proofs.Choices.{is_not, neither, none_if}
+use Rattle.gs_trace.proofs.Choices.{neither, none_if}
 use Rattle.gs_trace.proofs.Traces.{Head, IsHead}
 use Rattle.gs_trace.proofs.Spelled.{AreBytes-drop, length-numbers, length-spelled, numbers-spelled, spelled-numbers}
 

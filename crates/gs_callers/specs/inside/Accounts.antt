@@ -5,7 +5,8 @@ use Rattle.gs_beacon.specs.declared.beacon.Beacon.{Beacon}
 use Rattle.gs_net.specs.Tales.{Tale}
 use Rattle.gs_net.specs.declared.items.Item.{Item}
 use Rattle.gs_board.specs.declared.told.Told.{Told}
-use Rattle.gs_callers.specs.Items.{datagrams, unwanted}
+use Rattle.gs_net.specs.Items.{datagrams}
+use Rattle.gs_callers.specs.Items.{unwanted}
 use Rattle.gs_callers.specs.Seats.{TakesWanted}
 
 -- the wanted datagrams stand in the seat, but for one that is left out; the others were dropped; and so many came at least

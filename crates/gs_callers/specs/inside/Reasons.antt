@@ -2,7 +2,7 @@
 use Rattle.std.specs.Prelude.{◌≡◌, ℕ, ◌<◌, ◌≤◌, ◌⊎◌, true, is_some, [], Option, Some}
 use Rattle.gs_beacon.specs.declared.beacon.Beacon.{Beacon}
 use Rattle.gs_net.specs.Tales.{Tale}
-use Rattle.gs_callers.specs.Items.{datagrams, ends_in, is_quiet}
+use Rattle.gs_net.specs.Items.{datagrams, ends_in, is_quiet}
 use Rattle.gs_callers.specs.declared.receiver.Refusal.{Refusal}
 use Rattle.gs_callers.specs.declared.receiver.Stop.{Stop}
 use Rattle.gs_callers.specs.declared.receiver.Stop.TheVariants as stop

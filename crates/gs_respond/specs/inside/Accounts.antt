@@ -3,7 +3,7 @@ use Rattle.std.specs.Prelude.{◌≡◌, ℕ, ◌≤◌, true, All, List, [], �
 use Rattle.gs_net.specs.Tales.{Tale}
 use Rattle.gs_net.specs.declared.items.Item.{Item}
 use Rattle.gs_respond.specs.Doors.{IsAnswerOf, never_falls, owing, requests}
-use Rattle.gs_respond.specs.Items.{datagrams}
+use Rattle.gs_net.specs.Items.{datagrams}
 use Rattle.gs_respond.specs.TimeRequests.{asked_in, clock_in}
 
 -- the clocks of these replies never fall, nor are they above this one

@@ -1,7 +1,7 @@
 -- For private functions and proofs: what each reason to stop says of a responder's door and its clock.
 use Rattle.std.specs.Prelude.{◌≡◌, ℕ, ◌<◌, ◌≤◌, ◌⊎◌, true, [], Option, Some, None}
 use Rattle.gs_net.specs.Tales.{Tale}
-use Rattle.gs_respond.specs.Items.{datagrams, ends_in, is_quiet}
+use Rattle.gs_net.specs.Items.{datagrams, ends_in, is_quiet}
 use Rattle.gs_respond.specs.declared.rests.Rest.{Rest}
 use Rattle.gs_respond.specs.declared.rests.Rest.TheVariants as rest
 

@@ -13,7 +13,8 @@ use Rattle.gs_calendar.specs.Scripts.{start_of}
 use Rattle.gs_calendar.proofs.Calm.{scripts_are_calm}
 use Rattle.gs_calendar.proofs.Fitting.{fits}
 use Rattle.gs_record.specs.Recorded.{trace_of}
-use Rattle.gs_record.proofs.Recording.{begins, ends_whole, head_cut_ends, held_is_front, none_is_front, same_left, zeros_are}
+use Rattle.gs_run.proofs.Zeros.{zeros_are}
+use Rattle.gs_record.proofs.Recording.{begins, ends_whole, head_cut_ends, held_is_front, none_is_front, same_left}
 use Rattle.gs_record.proofs.record.record_script.Goals as goal
 
 pub loop-world-init : goal.loop-world-init

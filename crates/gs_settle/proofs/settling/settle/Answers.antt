@@ -12,7 +12,8 @@ use Rattle.gs_rows.specs.Row.{Row, fast_upto, row_at}
 use Rattle.gs_rows.specs.Stage.{IsOver, Stage}
 use Rattle.gs_settle.specs.Plays.{first_clock, first_clocks, last_of_level, rows_from_gamma}
 use Rattle.gs_settle.specs.inside.Running.{AreMarked}
-use Rattle.gs_settle.proofs.Marking.{settles_here, unbreached_here, fast_here, first_marked, in_time_here, last_here, more_fast, more_marked, row_here, stops_here}
+use Rattle.gs_rows.proofs.Stopping.{stops_here, unbreached_here}
+use Rattle.gs_settle.proofs.Marking.{settles_here, fast_here, first_marked, in_time_here, last_here, more_fast, more_marked, row_here}
 use Rattle.gs_settle.proofs.settling.settle.Goals as goal
 
 pub returns-in_err-next-clause-stop : goal.returns-in_err-next-clause-stop

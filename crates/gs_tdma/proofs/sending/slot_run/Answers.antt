@@ -9,7 +9,8 @@ use Rattle.gs_calendar.specs.Stops.{StopsAt}
 use Rattle.gs_rows.specs.Row.{zeros_of}
 use Rattle.gs_rows.specs.Stage.{IsOver, Stage}
 use Rattle.gs_tdma.specs.inside.Kept.{AreCounted, AreSent}
-use Rattle.gs_tdma.proofs.Counting.{few_sent, is_sent, more_sent, never_here, none_sent, play_rows, row_here, stops_here, unbreached_here}
+use Rattle.gs_rows.proofs.Stopping.{stops_here, unbreached_here}
+use Rattle.gs_tdma.proofs.Counting.{few_sent, is_sent, more_sent, never_here, none_sent, play_rows, row_here}
 use Rattle.gs_tdma.proofs.sending.slot_run.Goals as goal
 
 pub loop-sent-init : goal.loop-sent-init

@@ -4,7 +4,7 @@ use Rattle.gs_plan.specs.Plans.{graph_of}
 use Rattle.gs_run.specs.Nets.{net_of}
 use Rattle.gs_rows.specs.Row.{zeros_of}
 use Rattle.gs_rows.specs.Stage.{Stage}
-use Rattle.gs_rows.proofs.Staging.{zeros_are}
+use Rattle.gs_run.proofs.Zeros.{zeros_are}
 use Rattle.gs_rows.proofs.rows.Rows.start.Goals as goal
 
 pub returns : goal.returns

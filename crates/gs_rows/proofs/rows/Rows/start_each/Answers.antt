@@ -7,7 +7,8 @@ use Rattle.gs_world.specs.Placed.{Placed}
 use Rattle.gs_calendar.specs.Course.{course_of}
 use Rattle.gs_calendar.specs.Events.{events_of, nodes_of}
 use Rattle.gs_rows.specs.Row.{start_from}
-use Rattle.gs_rows.proofs.Staging.{begins_at, zeros_are}
+use Rattle.gs_run.proofs.Zeros.{zeros_are}
+use Rattle.gs_rows.proofs.Staging.{begins_at}
 use Rattle.gs_rows.proofs.rows.Rows.start_each.Goals as goal
 
 pub invariant_of-result : goal.invariant_of-result
