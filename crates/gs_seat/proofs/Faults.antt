@@ -16,7 +16,7 @@ use Rattle.gs_calendar.specs.Events.{deliveries_to, incs_at, quantum_at, ticks_a
 use Rattle.gs_calendar.specs.inside.Feeds.{deliver_all}
 use Rattle.gs_calendar.proofs.Agree.{IsCalendar, Listens, HasMail, begun_listens, quiet_listens}
 use Rattle.gs_calendar.proofs.Arrivals.{Arrives, IsArrival, arrivals_to, place_is_inside}
-use Rattle.gs_calendar.proofs.Counting.{link_place_is}
+use Rattle.gs_run.proofs.Current.{link_place_is}
 use Rattle.gs_calendar.proofs.OneSeat.{IsQuietWorld, run_is_quiet, begun, begins, listened, listened_is_quiet, all_deliveries}
 use Rattle.gs_calendar.proofs.Parts.{flat_split}
 use Rattle.gs_calendar.proofs.Turns.{turn_within}
