@@ -31,12 +31,16 @@ not_torn : (t : Ledger) (s : Slip) (torn : Torn) → IsWhole t s → IsTorn t s 
 not_torn t s Frame w d = d w.frame
 not_torn t s (Entry index told kept) w d = d.1.differ (sym d.1.told_is ∙ (ap (λ (ks : List Told). slice_get ks index) w.told ∙ d.1.kept_is))
 
+-- where a seat differs not all are whole
+pub not_whole : (t : Ledger) (seats : List Slip) (torn : Torn) → IsFirstTorn t seats torn → All (IsWhole t) seats → ⊥
+not_whole t seats torn s whole = not_torn t s.1 torn (at_place (IsWhole t) seats s.0 s.1 whole s.2) s.4
+
 -- an end where nothing failed is that of a run that was done, or had no memory
 pub complete : IsComplete
 complete t seats n a b why h quiet clock links none few whole = by why h.shows
   where
     by : (why : End) → Shows t seats n (Rose a b) why → (why ≡ end.Done) ⊎ (why ≡ end.OutOfMemory)
-    by (end.Torn torn) s = absurd (not_torn t s.1 torn (at_place (IsWhole t) seats s.0 s.1 whole s.2) s.4)
+    by (end.Torn torn) s = absurd (not_whole t seats torn s whole)
     by end.NoThread s = absurd (quiet s)
     by (end.ClockFault x) s = elim s [
       | inl p ↦ (let e = p.0 in absurd (cc))

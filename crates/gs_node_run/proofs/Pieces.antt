@@ -8,7 +8,7 @@ use Rattle.gs_io.specs.Held.{Appends, AppendsFront}
 use Rattle.gs_io.proofs.Writing.{then_appends_front}
 use Rattle.gs_trace.specs.Nodes.{event_bytes}
 
-appends_none : (held : Option (List ℕ)) → Appends held held []
+pub appends_none : (held : Option (List ℕ)) → Appends held held []
 appends_none None = tt
 appends_none (Some bytes) = ap (λ (z : List ℕ). Some z) (sym (append-nil bytes))
 

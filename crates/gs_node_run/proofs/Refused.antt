@@ -1,8 +1,7 @@
 -- What refuses a node.
-use Rattle.std.proofs.Common.{◌≡◌, ℕ, ◌≤◌, List, Option, Some, inl, inr, sym, subst}
+use Rattle.std.proofs.Common.{◌≡◌, ℕ, ◌≤◌, List, Option, Some, inr, sym, subst}
 use Rattle.gs_plan.specs.Plans.{graph_of}
 use Rattle.gs_plan.specs.declared.plan.Plan.{Plan}
-use Rattle.gs_cli.specs.Answers.{Answer}
 use Rattle.gs_cli.specs.inside.Stops.{StopsWith}
 use Rattle.gs_cli.specs.declared.stop.Stop.{Stop}
 use Rattle.gs_inputs.specs.Inputs.{IsPlan}

@@ -1,5 +1,5 @@
 -- What a run of a node gets from its ports, and what comes back to them.
-use Rattle.std.specs.Prelude.{◌≡◌, ℕ, ⊤, List, [], ◌∷◌, ◌++◌, length, map, take, Option, Some, None}
+use Rattle.std.specs.Prelude.{◌≡◌, ⊤, List, [], ◌∷◌, ◌++◌, map, Option, Some, None}
 use Rattle.std.specs.List.{AllZip}
 use Rattle.gs_net.specs.Lending.{Returned, returned_door, returned_inlet, returned_outlet}
 use Rattle.gs_net.specs.Tales.{OnTold}

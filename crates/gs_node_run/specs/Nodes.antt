@@ -1,5 +1,5 @@
 -- The node that the words of the command `node` name, and what refuses them, in order.
-use Rattle.std.specs.Prelude.{◌≡◌, ℕ, ◌<◌, ◌≤◌, ◌*◌, ◌/◌, ◌⊎◌, max, List, ◌++◌, Option, Some, None, codes, decimal}
+use Rattle.std.specs.Prelude.{◌≡◌, ℕ, ◌<◌, ◌≤◌, ◌⊎◌, List, ◌++◌, Option, Some, None, codes, decimal}
 use Rattle.gs_units.specs.declared.params.NodeParams.{NodeParams}
 use Rattle.gs_net.specs.declared.lending.Ask.{Ask}
 use Rattle.gs_plan.specs.Plans.{graph_of, params_for, text_of}

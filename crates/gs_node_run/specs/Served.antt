@@ -1,8 +1,8 @@
 -- What is left of a run of a node, and what is true of it where the node was served.
-use Rattle.std.specs.Prelude.{◌≡◌, ℕ, ⊤, List, ◌++◌, map, Option, Some}
+use Rattle.std.specs.Prelude.{◌≡◌, ◌⊎◌, ℕ, ⊤, List, ◌++◌, map, Option, Some}
 use Rattle.std.specs.List.{AllZip}
 use Rattle.gs_clock.specs.declared.clocks.Clock as clock
-use Rattle.gs_board.specs.Boards.{ledger_in}
+use Rattle.gs_board.specs.Boards.{clock_in, ledger_in}
 use Rattle.gs_board.specs.Ledger.{Ledger}
 use Rattle.gs_board.specs.Slips.{Slip}
 use Rattle.gs_net.specs.Lending.{Holds, Returned}
@@ -27,6 +27,11 @@ abbrev pub IfServed : {C : Type 0} {c : clock.Ghosts C} → Left C c → (Ledger
 IfServed (left.Clock clock) P = ⊤
 IfServed (left.Served board seats) P = P (ledger_in board) seats.items
 
+-- the clock that is left, also that of the board
+abbrev pub clock_left : {C : Type 0} {c : clock.Ghosts C} → Left C c → C
+clock_left (left.Clock clock) = clock
+clock_left (left.Served board seats) = clock_in board
+
 -- it was
 abbrev pub WasServed : {C : Type 0} {c : clock.Ghosts C} → Left C c → Type 0
 WasServed (left.Clock clock) = ⊥
@@ -41,7 +46,7 @@ pub record IsHanded (params : NodeParams) (ticks : ℕ) (held : Option (ℕ → 
   pub door_holds : Holds held door handed.door
 
 -- What came back to the ports is what the node handed back, with this ledger and these seats; all that is true in every end
--- of a node is true of it, and with the status `Done` all that is true of one that was done.
+-- of a node is true of it, and all that is true of one that was done where the status is `Done`, or only the trace failed.
 pub record Serves {In Out Asked : Type 0} (tale : In → Option Tale) (sent : Out → Option (List (ℕ × List ℕ))) (door_tale : Asked → Option Tale) (replies : Asked → Option (List (List ℕ))) (handed : HandedIn) (back after : Option (List (Returned In Out Asked))) (end : Status) (ledger : Ledger) (seats : List Slip) : Type 0 where
   pub inlets : List In
   pub outlet : Out
@@ -55,4 +60,4 @@ pub record Serves {In Out Asked : Type 0} (tale : In → Option Tale) (sent : Ou
   pub ledger_is : over.ledger ≡ ledger
   pub seats_are : over.seats ≡ seats
   pub every : EveryEnd handed over
-  pub done : end ≡ status.Done → DoneEnd handed over
+  pub done : (end ≡ status.Done) ⊎ (end ≡ status.WriteFault) → DoneEnd handed over

@@ -1,8 +1,10 @@
-ghost use Rattle.std.specs.Prelude.{◌≡◌, IfOk};
+ghost use Rattle.std.specs.Prelude.{◌≡◌, ◌++◌, ◌∷◌, All, IfOk, IfSome, IfNone, codes, decimal, string_bytes};
+ghost use Rattle.gs_board.specs.Boards.{ledger_in};
+ghost use Rattle.gs_board.specs.Torn.{IsWhole};
 ghost use Rattle.gs_cli.specs.inside.Reply.{answer_in};
-ghost use Rattle.gs_node_run.specs.Lines.{Says, fell_answer, plain_line};
-ghost use Rattle.gs_node_run.specs.Statuses.{status_of};
+ghost use Rattle.gs_node_run.specs.Lines.{IsAnswerOf, IsTornAt, Says, clock_answer, entry_words, event_words, plain_answer, torn_answer, torn_words};
 ghost use Rattle.gs_node_run.specs.inside.Told.{Refuses};
+ghost use Rattle.gs_node_run.specs.inside.Traced.{status_of};
 
 use gs_board::{Board, Halt, Seat, Told, Torn};
 use gs_cli::{Reply, Status, Stop};
@@ -60,7 +62,7 @@ pub fn tell<S: Sink>(say: &mut S, reply: &Reply)
 
 /// The line of a status, where it has one without words of its own.
 pub fn plain_line(status: Status) -> Reply
-    ensures { answer_in result ≡ record { status = status; text = plain_line status } }
+    ensures { answer_in result ≡ plain_answer status }
 {
     let line = match status {
         Status::ClockFault => "clock failed\n",
@@ -73,67 +75,97 @@ pub fn plain_line(status: Status) -> Reply
     Reply::Line(status, line)
 }
 
-/// The line of an end.
+/// The line of a status of a node that was served.
 pub fn line_of<C: Clock>(
     alloc: Global,
-    end: End,
+    status: Status,
     board: &Board<C>,
     seats: &[Seat<C>],
-) -> Result<Reply, AllocError> {
-    match end {
-        End::ClockFault(Halt::Fell { last, now }) => fell_line(alloc, last, now),
-        End::Torn(torn) => torn_line(alloc, torn_place(board, seats), &torn),
-        end => Ok(plain_line(status_of(end))),
-    }
-}
-
-fn fell_line(alloc: Global, last: u64, now: u64) -> Result<Reply, AllocError>
-    ensures { IfOk result (λ reply. answer_in reply ≡ fell_answer last now) }
+) -> Result<Reply, AllocError>
+    requires torn { status ≡ Status.Torn → ¬ All (IsWhole (ledger_in board.now)) seats.now }
+    ensures { IfOk result (λ reply. IsAnswerOf (ledger_in board.now) seats.now status (answer_in reply)) }
 {
-    let readings = format!(in alloc; "{last} {now}")?;
-    Reply::line_of(alloc, Status::ClockFault, "clock fell: ", readings.as_str())
-}
-
-/// The place of the first seat that differs from the board.
-fn torn_place<C: Clock>(board: &Board<C>, seats: &[Seat<C>]) -> u64 {
-    let mut place = 0u64;
-    for seat in seats {
-        if board.compare(seat).is_some() {
-            return place;
-        }
-        place = place.saturating_add(1);
+    match status {
+        Status::ClockFault => clock_line(alloc, board.halt()),
+        Status::Torn => first_torn_line(alloc, board, seats),
+        other => Ok(plain_line(other)),
     }
-    place
 }
 
-fn torn_line(alloc: Global, place: u64, torn: &Torn) -> Result<Reply, AllocError> {
-    let what = match torn {
-        Torn::Frame => format!(in alloc; "{place} frame")?,
-        Torn::Entry { index, told, kept } => entry_text(alloc, place, *index, told, kept)?,
-    };
-    Reply::line_of(alloc, Status::Torn, "torn seat ", what.as_str())
+/// The line of a fault of the board's clock, or of the view clock.
+fn clock_line(alloc: Global, halt: Option<Halt>) -> Result<Reply, AllocError>
+    ensures { IfOk result (λ reply. answer_in reply ≡ clock_answer halt) }
+{
+    match halt {
+        Some(Halt::Fell { last, now }) => {
+            let readings = format!(in alloc; "{last} {now}")?;
+            Reply::line_of(alloc, Status::ClockFault, "clock fell: ", readings.as_str())
+        }
+        _ => Ok(plain_line(Status::ClockFault)),
+    }
 }
 
-fn entry_text(
+/// The line of the first seat that differs from the board.
+fn first_torn_line<C: Clock>(
     alloc: Global,
-    place: u64,
-    index: u64,
-    told: &Option<Told>,
-    kept: &Option<Told>,
-) -> Result<String, AllocError> {
-    let told = kind_text(alloc, told)?;
-    let kept = kind_text(alloc, kept)?;
-    format!(in alloc; "{place} index {index} told {told} kept {kept}")
+    board: &Board<C>,
+    seats: &[Seat<C>],
+) -> Result<Reply, AllocError>
+    requires { ¬ All (IsWhole (ledger_in board.now)) seats.now }
+    ensures { IfOk result (λ reply. IsAnswerOf (ledger_in board.now) seats.now Status.Torn (answer_in reply)) }
+{
+    match first_torn(board, seats) {
+        Some((place, torn)) => torn_line(alloc, place, &torn),
+        None => unreachable!(),
+    }
 }
 
-fn kind_text(alloc: Global, told: &Option<Told>) -> Result<String, AllocError> {
+/// The place of the first seat that differs from the board, and how it differs.
+fn first_torn<C: Clock>(board: &Board<C>, seats: &[Seat<C>]) -> Option<(usize, Torn)>
+    ensures some { IfSome result (λ found. IsTornAt (ledger_in board.now) seats.now found.0 found.1) }
+    ensures none { IfNone result (All (IsWhole (ledger_in board.now)) seats.now) }
+{
+    for (place, seat) in seats.iter().enumerate() {
+        if let Some(torn) = board.compare(seat) {
+            return Some((place, torn));
+        }
+    }
+    None
+}
+
+fn torn_line(alloc: Global, place: usize, torn: &Torn) -> Result<Reply, AllocError>
+    ensures { IfOk result (λ reply. answer_in reply ≡ torn_answer place torn.now) }
+{
+    let what = torn_text(alloc, torn)?;
+    let words = format!(in alloc; "{place} {what}")?;
+    Reply::line_of(alloc, Status::Torn, "torn seat ", words.as_str())
+}
+
+fn torn_text(alloc: Global, torn: &Torn) -> Result<String, AllocError>
+    ensures { IfOk result (λ text. string_bytes text ≡ torn_words torn.now) }
+{
+    match torn {
+        Torn::Frame => String::from_str(alloc, "frame"),
+        Torn::Entry { index, told, kept } => {
+            let told = entry_text(alloc, told)?;
+            let kept = entry_text(alloc, kept)?;
+            format!(in alloc; "index {index} told {told} kept {kept}")
+        }
+    }
+}
+
+fn entry_text(alloc: Global, told: &Option<Told>) -> Result<String, AllocError>
+    ensures { IfOk result (λ text. string_bytes text ≡ entry_words told.now) }
+{
     match told {
         None => String::from_str(alloc, "none"),
         Some(told) => event_text(alloc, &told.event),
     }
 }
 
-fn event_text(alloc: Global, event: &NodeEvent) -> Result<String, AllocError> {
+fn event_text(alloc: Global, event: &NodeEvent) -> Result<String, AllocError>
+    ensures { IfOk result (λ text. string_bytes text ≡ event_words event.now) }
+{
     match event {
         NodeEvent::Tick { hw } => format!(in alloc; "tick {hw}"),
         NodeEvent::Deliver { hw, beacon } => {

@@ -1,4 +1,5 @@
-ghost use Rattle.std.specs.Prelude.{◌≡◌, ◌≤◌, ◌<◌, ◌+◌, ◌++◌, length, map, None};
+ghost use Rattle.std.specs.Prelude.{◌≡◌, ◌≤◌, ◌<◌, ◌+◌, ◌++◌, length, map, None, IfSome};
+ghost use Rattle.std.specs.List.{sum_by};
 ghost use Rattle.gs_io.specs.Causes.{Rose};
 ghost use Rattle.gs_net.specs.Lending.{returned_inlet};
 ghost use Rattle.gs_net.specs.Tales.{OnTold};
@@ -20,6 +21,13 @@ pub fn give_back<P: Ports>(ports: &mut P, objects: Objects<P>)
     ensures doors_out { P.doors_out ports.new + one_if objects.door ≡ P.doors_out ports.old }
     ensures asked { P.asked ports.new ≡ P.asked ports.old }
     ensures held { P.held ports.new ≡ P.held ports.old }
+
+    // An object that has failed is a failure of the ports.
+    ensures inlet_counted { 0 < sum_by P.In.faults objects.inlets.items → Rose (P.faults ports.old) (P.faults ports.new) }
+    ensures outlet_counted { IfSome objects.outlet (λ outlet.
+        0 < P.Out.faults outlet → Rose (P.faults ports.old) (P.faults ports.new)) }
+    ensures door_counted { IfSome objects.door (λ door.
+        0 < P.Asked.Inlet.faults door → Rose (P.faults ports.old) (P.faults ports.new)) }
     ensures never_falls { P.faults ports.old ≤ P.faults ports.new }
 {
     let Objects {
@@ -45,6 +53,7 @@ fn give_inlets_back<P: Ports>(ports: &mut P, inlets: Vec<P::In>)
     ensures doors_out { P.doors_out ports.new ≡ P.doors_out ports.old }
     ensures asked { P.asked ports.new ≡ P.asked ports.old }
     ensures held { P.held ports.new ≡ P.held ports.old }
+    ensures counted { 0 < sum_by P.In.faults inlets.items → Rose (P.faults ports.old) (P.faults ports.new) }
     ensures never_falls { P.faults ports.old ≤ P.faults ports.new }
 {
     for inlet in inlets {

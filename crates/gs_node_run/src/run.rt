@@ -1,6 +1,8 @@
-ghost use Rattle.std.specs.Prelude.{◌≡◌, List, map, length, string_bytes};
+ghost use Rattle.std.specs.Prelude.{◌≡◌, ◌++◌, List, map, length, string_bytes};
+ghost use Rattle.gs_io.specs.Held.{Appends};
 ghost use Rattle.gs_board.specs.Boards.{ledger_in};
 ghost use Rattle.gs_board.specs.Ledger.{opened};
+ghost use Rattle.gs_net.specs.Tales.{OnTold};
 ghost use Rattle.gs_net.specs.declared.lending.Ask.{Ask};
 ghost use Rattle.gs_topo.specs.Graph.{neighbours_of};
 ghost use Rattle.gs_plan.specs.Plans.{graph_of, text_of};
@@ -9,12 +11,14 @@ ghost use Rattle.gs_inputs.specs.Sources.{seen};
 ghost use Rattle.gs_node.specs.Handing.{HandedIn};
 ghost use Rattle.gs_node_run.specs.Addresses.{answers_at, asks_for, receives_at};
 ghost use Rattle.gs_node_run.specs.Lending.{Borrowed};
-ghost use Rattle.gs_node_run.specs.Nodes.{Names, params_of};
+ghost use Rattle.gs_node_run.specs.Lines.{Says, plain_line};
+ghost use Rattle.gs_node_run.specs.Nodes.{Names, asks_for_node, params_of};
 ghost use Rattle.gs_node_run.specs.Runs.{IsAsked};
-ghost use Rattle.gs_node_run.specs.Served.{IfClock, IfServed, IsHanded, Serves};
-ghost use Rattle.gs_node_run.specs.Statuses.{IsWritten};
+ghost use Rattle.gs_node_run.specs.Served.{IfClock, IfServed, IsHanded, Serves, WasServed, clock_left};
+ghost use Rattle.gs_node_run.specs.Statuses.{EndsServed, EndsUnserved, IsLate, IsWritten, count, faults};
 ghost use Rattle.gs_node_run.specs.Traces.{trace_of};
 ghost use Rattle.gs_node_run.specs.Words.{Order};
+ghost use Rattle.gs_node_run.specs.inside.Told.{Unlent, board_status, link_status};
 
 use crate::addresses::Addresses;
 use crate::asking::{Lent, ask};
@@ -70,19 +74,34 @@ where
     ensures outlets_out { P.outlets_out ports.new ≡ P.outlets_out ports.old }
     ensures doors_out { P.doors_out ports.new ≡ P.doors_out ports.old }
 
-    // Where the node was served, it was the one that the words name, over what its ports lent, and all that is
-    // said of a served node holds.
+    // Where the node was served, it was the one that the words name, over all that it asks its ports for, and all
+    // that is said of a served node holds.
     ensures served { IfServed result.left (λ ledger seats. (order : Order) × (plan : Plan) × (handed : HandedIn)
         × Names (seen (F.content files.old) (F.faults files.old) (F.faults files.new)) (map string_bytes words.now) order plan
+        × (P.asked ports.new ≡ OnTold (P.asked ports.old) (λ before. before ++ asks_for_node plan order.node))
         × IsHanded (params_of plan order.node) order.ticks (P.held ports.old)
         (map (receives_at (text_of plan) (graph_of plan) order.node) (neighbours_of (graph_of plan) order.node))
         (answers_at (text_of plan) (graph_of plan) order.node) handed
         × Serves P.In.tale P.Out.sent P.Asked.Inlet.tale P.Asked.Inlet.replies handed (P.back ports.old) (P.back ports.new) result.status ledger seats) }
 
-    // The trace is that of the board's journal; a node that was not served has none.
+    // Each status has its cause, and its line is said.
+    ensures unserved { IfClock result.left (λ left. EndsUnserved
+        (seen (F.content files.old) (F.faults files.old) (F.faults files.new)) (map string_bytes words.now)
+        (faults (C.faults (clock_left result.left)) (V.faults result.view_clock) (count (P.faults ports.old) (P.faults ports.new))
+        (count (W.faults crew.old) (W.faults crew.new)) (count (K.faults trace.old) (K.faults trace.new)))
+        (IsLate (C.left clock) (C.left left))
+        (λ text. Says text (S.bytes say.old) (S.bytes say.new) (S.faults say.old) (S.faults say.new)) result.status) }
+    ensures ended { IfServed result.left (λ ledger seats. EndsServed ledger seats
+        (faults (C.faults (clock_left result.left)) (V.faults result.view_clock) (count (P.faults ports.old) (P.faults ports.new))
+        (count (W.faults crew.old) (W.faults crew.new)) (count (K.faults trace.old) (K.faults trace.new)))
+        (λ text. Says text (S.bytes say.old) (S.bytes say.new) (S.faults say.old) (S.faults say.new)) result.status) }
+
+    // The trace is that of the board's journal; a node that was not served has none. With status 0 it is whole.
     ensures clock { IfClock result.left (λ _. K.bytes trace.new ≡ K.bytes trace.old) }
     ensures trace { IfServed result.left (λ ledger seats. IsWritten (trace_of ledger) result.status
         (K.bytes trace.old) (K.bytes trace.new) (K.faults trace.old) (K.faults trace.new)) }
+    ensures whole { result.status ≡ Status.Done → WasServed result.left × IfServed result.left (λ ledger seats.
+        Appends (K.bytes trace.old) (K.bytes trace.new) (trace_of ledger)) }
 {
     let Job {
         params,
@@ -112,7 +131,9 @@ where
 }
 
 /// The status of a board that could not be made.
-fn board_status(stop: BoardStop) -> Status {
+fn board_status(stop: BoardStop) -> Status
+    ensures { result ≡ board_status stop }
+{
     match stop {
         BoardStop::ClockFailed => Status::ClockFault,
         BoardStop::Far => Status::ClockEnd,
@@ -121,7 +142,10 @@ fn board_status(stop: BoardStop) -> Status {
 }
 
 /// Tells the line of a status, and answers it.
-fn stopped<S: Sink>(say: &mut S, status: Status) -> Status {
+fn stopped<S: Sink>(say: &mut S, status: Status) -> Status
+    ensures status { result ≡ status }
+    ensures said { Says (plain_line result) (S.bytes say.old) (S.bytes say.new) (S.faults say.old) (S.faults say.new) }
+{
     tell(say, &plain_line(status));
     status
 }
@@ -165,9 +189,19 @@ where
     ensures served { IfServed result.left (λ ledger seats. (handed : HandedIn)
         × IsHanded (ledger_in board).core.params ticks (P.held ports.old) addresses.now.inlets.items addresses.now.door handed
         × Serves P.In.tale P.Out.sent P.Asked.Inlet.tale P.Asked.Inlet.replies handed (P.back ports.old) (P.back ports.new) result.status ledger seats) }
+    ensures lent { IfServed result.left (λ ledger seats. P.asked ports.new ≡ OnTold (P.asked ports.old) (λ before.
+        before ++ asks_for addresses.now.inlets.items addresses.now.routes.items addresses.now.door)) }
+    ensures unlent { IfClock result.left (λ left. Unlent (P.faults ports.old) (P.faults ports.new) result.status
+        × Says (plain_line result.status) (S.bytes say.old) (S.bytes say.new) (S.faults say.old) (S.faults say.new)) }
+    ensures ended { IfServed result.left (λ ledger seats. EndsServed ledger seats
+        (faults (C.faults (clock_left result.left)) (V.faults result.view_clock) (count (P.faults ports.old) (P.faults ports.new))
+        (count (W.faults crew.old) (W.faults crew.new)) (count (K.faults trace.old) (K.faults trace.new)))
+        (λ text. Says text (S.bytes say.old) (S.bytes say.new) (S.faults say.old) (S.faults say.new)) result.status) }
     ensures clock { IfClock result.left (λ _. K.bytes trace.new ≡ K.bytes trace.old) }
     ensures trace { IfServed result.left (λ ledger seats. IsWritten (trace_of ledger) result.status
         (K.bytes trace.old) (K.bytes trace.new) (K.faults trace.old) (K.faults trace.new)) }
+    ensures whole { result.status ≡ Status.Done → WasServed result.left × IfServed result.left (λ ledger seats.
+        Appends (K.bytes trace.old) (K.bytes trace.new) (trace_of ledger)) }
 {
     match ask(alloc, ports, addresses) {
         Ok(
@@ -192,7 +226,9 @@ where
 }
 
 /// The status of ports that lent nothing.
-fn link_status(stop: LinkStop) -> Status {
+fn link_status(stop: LinkStop) -> Status
+    ensures { result ≡ link_status stop }
+{
     match stop {
         LinkStop::Failed => Status::LinkFault,
         LinkStop::OutOfMemory => Status::OutOfMemory,

@@ -1,12 +1,17 @@
-ghost use Rattle.std.specs.Prelude.{◌≡◌, ◌≤◌, ◌+◌, ◌++◌, [], List, map, length, false, All, Some};
+ghost use Rattle.std.specs.Prelude.{◌≡◌, ◌≤◌, ◌+◌, ◌++◌, ◌⊎◌, ℕ, [], List, map, length, false, All, Some};
+ghost use Rattle.gs_io.specs.Causes.{Rose};
+ghost use Rattle.gs_io.specs.Held.{Appends};
 ghost use Rattle.gs_net.specs.Tales.{IsFresh, IsUnused, OnTold};
 ghost use Rattle.gs_board.specs.Boards.{ledger_in};
+ghost use Rattle.gs_board.specs.Torn.{IsWhole};
+ghost use Rattle.gs_cli.specs.Answers.{Answer};
 ghost use Rattle.gs_node.specs.Handing.{handed_in};
 ghost use Rattle.gs_node_run.specs.Lending.{in_order};
-ghost use Rattle.gs_node_run.specs.Served.{IfServed, Serves, WasServed};
-ghost use Rattle.gs_node_run.specs.Statuses.{IsWritten};
+ghost use Rattle.gs_node_run.specs.Lines.{IsAnswerOf, Says};
+ghost use Rattle.gs_node_run.specs.Served.{IfServed, Serves, WasServed, clock_left};
+ghost use Rattle.gs_node_run.specs.Statuses.{EndsServed, IsWritten, count, faults};
 ghost use Rattle.gs_node_run.specs.Traces.{trace_of};
-ghost use Rattle.gs_node_run.specs.inside.Traced.{after_trace};
+ghost use Rattle.gs_node_run.specs.inside.Traced.{ComesAfter, after_trace, status_of};
 
 use crate::asking::Objects;
 use crate::ends::{Left, NodeEnd};
@@ -21,7 +26,7 @@ use gs_io::{Gate, Sink};
 use gs_net::Ports;
 use gs_node::{End, Served, serve};
 use gs_view::Publisher;
-use std::alloc::Global;
+use std::alloc::{AllocError, Global};
 use std::sync::Wait;
 use std::thread::Threads;
 
@@ -72,6 +77,12 @@ where
         × (P.back ports.new ≡ OnTold (P.back ports.old) (λ before. before ++ in_order back (Some sent) (Some asked))) }
     ensures trace { IfServed result.left (λ ledger seats. IsWritten (trace_of ledger) result.status
         (K.bytes trace.old) (K.bytes trace.new) (K.faults trace.old) (K.faults trace.new)) }
+    ensures whole { result.status ≡ Status.Done → IfServed result.left (λ ledger seats.
+        Appends (K.bytes trace.old) (K.bytes trace.new) (trace_of ledger)) }
+    ensures ended { IfServed result.left (λ ledger seats. (before : ℕ) → before ≤ P.faults ports.old → EndsServed ledger seats
+        (faults (C.faults (clock_left result.left)) (V.faults result.view_clock) (count before (P.faults ports.new))
+        (count (W.faults crew.old) (W.faults crew.new)) (count (K.faults trace.old) (K.faults trace.new)))
+        (λ text. Says text (S.bytes say.old) (S.bytes say.new) (S.faults say.old) (S.faults say.new)) result.status) }
     ensures asked { P.asked ports.new ≡ P.asked ports.old }
     ensures inlets_out { P.inlets_out ports.new + length inlets.items ≡ P.inlets_out ports.old }
     ensures outlets_out { P.outlets_out ports.new + 1 ≡ P.outlets_out ports.old }
@@ -99,8 +110,7 @@ where
             door: Some(door),
         },
     );
-    let status = status_after(status_of(end), write_trace(alloc, trace, &board));
-    tell_end(alloc, say, end, status, &board, &seats);
+    let status = conclude(alloc, end, &board, &seats, trace, say);
     NodeEnd {
         status,
         left: Left::Served { board, seats },
@@ -116,34 +126,57 @@ fn end_view<R: Wait>(rt: &R, publisher: Option<Publisher>) {
     }
 }
 
+/// Writes the trace of a node that was served, tells how it ended, and answers the status.
+fn conclude<C: Clock, K: Sink, S: Sink>(
+    alloc: Global,
+    end: End,
+    board: &Board<C>,
+    seats: &[Seat<C>],
+    trace: &mut K,
+    say: &mut S,
+) -> Status
+    requires torn { status_of end ≡ Status.Torn → ¬ All (IsWhole (ledger_in board.now)) seats.now }
+    ensures status { ComesAfter end (Rose (K.faults trace.old) (K.faults trace.new)) result }
+    ensures whole { result ≡ Status.Done → Appends (K.bytes trace.old) (K.bytes trace.new) (trace_of (ledger_in board.now)) }
+    ensures written { IsWritten (trace_of (ledger_in board.now)) result
+        (K.bytes trace.old) (K.bytes trace.new) (K.faults trace.old) (K.faults trace.new) }
+    ensures said { (answer : Answer) × IsAnswerOf (ledger_in board.now) seats.now result answer
+        × Says answer.text (S.bytes say.old) (S.bytes say.new) (S.faults say.old) (S.faults say.new) }
+{
+    let status = status_after(end, write_trace(alloc, trace, board));
+    tell_end(alloc, say, status, board, seats)
+}
+
 /// The status of a run that ended so, and whose trace was written so: want of memory for the trace comes
 /// first, and a fault of it only where all else was done.
-fn status_after(ended: Status, written: Result<(), TraceStop>) -> Status
-    ensures { result ≡ after_trace ended written }
+fn status_after(end: End, written: Result<(), TraceStop>) -> Status
+    ensures { result ≡ after_trace (status_of end) written }
 {
-    match written {
-        Ok(()) => ended,
-        Err(TraceStop::OutOfMemory) => Status::OutOfMemory,
-        Err(TraceStop::Failed) => match ended {
-            Status::Done => Status::WriteFault,
-            other => other,
-        },
+    match (written, status_of(end)) {
+        (Err(TraceStop::OutOfMemory), _) => Status::OutOfMemory,
+        (Err(TraceStop::Failed), Status::Done) => Status::WriteFault,
+        (_, ended) => ended,
     }
 }
 
-/// Tells the line of the end, where the run has its status.
+/// Tells the line of a status. Where there is no memory for the line, that is the status.
 fn tell_end<C: Clock, S: Sink>(
     alloc: Global,
     say: &mut S,
-    end: End,
     status: Status,
     board: &Board<C>,
     seats: &[Seat<C>],
-) {
-    if status != status_of(end) {
-        return;
-    }
-    if let Ok(line) = line_of(alloc, end, board, seats) {
-        tell(say, &line);
+) -> Status
+    requires torn { status ≡ Status.Torn → ¬ All (IsWhole (ledger_in board.now)) seats.now }
+    ensures status { (result ≡ status) ⊎ (result ≡ Status.OutOfMemory) }
+    ensures said { (answer : Answer) × IsAnswerOf (ledger_in board.now) seats.now result answer
+        × Says answer.text (S.bytes say.old) (S.bytes say.new) (S.faults say.old) (S.faults say.new) }
+{
+    match line_of(alloc, status, board, seats) {
+        Ok(line) => {
+            tell(say, &line);
+            status
+        }
+        Err(AllocError) => Status::OutOfMemory,
     }
 }

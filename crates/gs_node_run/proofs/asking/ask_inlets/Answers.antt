@@ -1,4 +1,4 @@
-use Rattle.std.proofs.Common.{arith, rules, ◌∙◌, ◌≡◌, ◌<◌, ◌+◌, length, refl}
+use Rattle.std.proofs.Common.{arith, rules, ◌∙◌}
 use Rattle.gs_net.specs.Lending.{Holds}
 use Rattle.gs_net.specs.Tales.{IsFresh}
 use Rattle.gs_node_run.proofs.Telling.{all_pushed, asked_more, length_pushed, zip_pushed}

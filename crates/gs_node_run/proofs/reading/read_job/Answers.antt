@@ -1,6 +1,5 @@
-use Rattle.std.proofs.Common.{arith, rules, ◌≡◌, ◌≤◌, ◌<◌, ◌∙◌, Some, ap, map, string_bytes}
+use Rattle.std.proofs.Common.{arith, rules, ◌≡◌, ◌∙◌, Some, ap, map, string_bytes}
 use Rattle.gs_topo.specs.Graph.{Graph}
-use Rattle.gs_plan.specs.Plans.{graph_of}
 use Rattle.gs_inputs.specs.Sources.{seen}
 use Rattle.gs_node_run.specs.Words.{order_of}
 use Rattle.gs_node_run.specs.inside.Meaning.{meaning}

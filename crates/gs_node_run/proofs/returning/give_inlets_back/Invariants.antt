@@ -1,4 +1,6 @@
-use Rattle.std.proofs.Common.{◌≡◌, ◌++◌, ◌+◌, ◌≤◌, length, map}
+use Rattle.std.proofs.Common.{◌≡◌, ◌++◌, ◌+◌, ◌≤◌, ◌<◌, ◌⊎◌, length, map}
+use Rattle.std.specs.List.{sum_by}
+use Rattle.gs_io.specs.Causes.{Rose}
 use Rattle.gs_net.specs.Lending.{returned_inlet}
 use Rattle.gs_net.specs.Tales.{OnTold}
 use Rattle.gs_node_run.proofs.returning.give_inlets_back.Given as goal
@@ -15,4 +17,5 @@ invariant-loop-inlet g l = record {
   asked : g.P.Ports.asked l.ports ≡ g.P.Ports.asked l.fn.ports;
   held : g.P.Ports.held l.ports ≡ g.P.Ports.held l.fn.ports;
   faults : g.P.Ports.faults l.fn.ports ≤ g.P.Ports.faults l.ports;
+  counted : 0 < sum_by g.P.In.Inlet.faults l.fn.inlets.items → Rose (g.P.Ports.faults l.fn.ports) (g.P.Ports.faults l.ports) ⊎ (0 < sum_by g.P.In.Inlet.faults l.inlet-iterator.rest.items);
 }

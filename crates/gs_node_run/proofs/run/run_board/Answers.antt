@@ -5,7 +5,7 @@ use Rattle.gs_net.specs.Tales.{OnTold}
 use Rattle.gs_node.specs.Handing.{HandedIn, handed_in}
 use Rattle.gs_node_run.specs.Addresses.{asks_for}
 use Rattle.gs_node_run.specs.Lending.{in_order}
-use Rattle.gs_node_run.specs.Served.{IfServed, IsHanded, Serves}
+use Rattle.gs_node_run.specs.Served.{IsHanded, Serves}
 use Rattle.gs_board.specs.Boards.{ledger_in}
 use Rattle.gs_node_run.proofs.Getting.{borrowed_all, borrowed_some}
 use Rattle.gs_node_run.proofs.Handed.{served_as}
@@ -25,6 +25,10 @@ returns-in-Err-clause-ports g c =
     let o = c.in-Err.objects in
     borrowed_some _ (in_order o.inlets.items o.outlet o.door) _ (g.P.Ports.asked c.ask.new.ports) _ _ _ (search rules) c.give_back.ensures.asked
     (subst (λ back. g.P.Ports.back c.give_back.new.ports ≡ OnTold back (λ before. before ++ in_order o.inlets.items o.outlet o.door)) c.ask.ensures.back c.give_back.ensures.back)
+
+pub returns-in-Ok-clause-ended : goal.returns-in-Ok-clause-ended
+returns-in-Ok-clause-ended g c =
+    served_as c.serve_node.result.left _ _ (λ ledger seats is. is (g.P.Ports.faults c.args.ports.now) c.ask.ensures.never_falls) c.serve_node.ensures.ended
 
 pub returns-in-Ok-clause-served : goal.returns-in-Ok-clause-served
 returns-in-Ok-clause-served g c =
