@@ -1,2 +1,4 @@
+pub mod AtHand
 pub mod Reading
 pub mod Refusing
+pub mod Results

@@ -1,3 +1,4 @@
+pub mod AtHand
 pub mod Inputs
 pub mod Plans
 pub mod Scripts

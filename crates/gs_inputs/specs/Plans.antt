@@ -1,5 +1,5 @@
 -- The plan of what a PLAN word was read as, and what refuses it.
-use Rattle.std.specs.Prelude.{ℕ, ◌-◌, ◌^◌, List, ◌++◌, Option, Some, None, Result, Ok, Err, codes}
+use Rattle.std.specs.Prelude.{ℕ, ◌-◌, ◌^◌, List, ◌++◌, Option, Some, None, Result, Ok, Err, codes, decimal}
 use Rattle.gs_planfile.specs.Meaning.{plan_of}
 use Rattle.gs_planfile.specs.Texts.{base_text}
 use Rattle.gs_planfile.specs.Words.{why_of as file_why}
@@ -44,3 +44,7 @@ checked (Ok text) = accepted text (plan_fault text)
 -- The text of the accepted plan that was read, or what refuses it.
 abbrev pub plan_in : Source → Result PlanText Answer
 plan_in source = checked (text_from source)
+
+-- a number that no node of the plan has
+abbrev pub node_refused : ℕ → Answer
+node_refused v = line status.InputRefused (codes "node refused: " ++ decimal v)

@@ -1,3 +1,4 @@
+pub mod Completing
 pub mod Ended
 pub mod Getting
 pub mod Handed

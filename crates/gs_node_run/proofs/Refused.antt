@@ -5,9 +5,10 @@ use Rattle.gs_plan.specs.declared.plan.Plan.{Plan}
 use Rattle.gs_cli.specs.inside.Stops.{StopsWith}
 use Rattle.gs_cli.specs.declared.stop.Stop.{Stop}
 use Rattle.gs_inputs.specs.Inputs.{IsPlan}
+use Rattle.gs_inputs.specs.Plans.{node_refused}
 use Rattle.gs_inputs.specs.Sources.{FilesSeen}
 use Rattle.gs_inputs.proofs.Reading.{stops_as}
-use Rattle.gs_node_run.specs.Nodes.{IsRefused, IsRefusedAs, node_refused}
+use Rattle.gs_node_run.specs.Nodes.{IsRefused, IsRefusedAs}
 use Rattle.gs_node_run.specs.Words.{Order, order_of}
 
 -- a node that the plan does not have

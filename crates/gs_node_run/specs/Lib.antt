@@ -1,4 +1,5 @@
 pub mod Addresses
+pub mod Completeness
 pub mod Lending
 pub mod Lines
 pub mod Nodes

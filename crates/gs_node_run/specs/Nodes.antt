@@ -1,12 +1,12 @@
 -- The node that the words of the command `node` name, and what refuses them, in order.
-use Rattle.std.specs.Prelude.{◌≡◌, ℕ, ◌<◌, ◌≤◌, ◌⊎◌, List, ◌++◌, Option, Some, None, codes, decimal}
+use Rattle.std.specs.Prelude.{◌≡◌, ℕ, ◌<◌, ◌≤◌, ◌⊎◌, List, Option, Some, None}
 use Rattle.gs_units.specs.declared.params.NodeParams.{NodeParams}
 use Rattle.gs_net.specs.declared.lending.Ask.{Ask}
 use Rattle.gs_plan.specs.Plans.{graph_of, params_for, text_of}
 use Rattle.gs_plan.specs.declared.plan.Plan.{Plan}
-use Rattle.gs_cli.specs.Answers.{Answer, line, usage}
-use Rattle.gs_cli.specs.declared.status.Status.TheVariants as status
+use Rattle.gs_cli.specs.Answers.{Answer, usage}
 use Rattle.gs_inputs.specs.Inputs.{IsNoPlan, IsPlan}
+use Rattle.gs_inputs.specs.Plans.{node_refused}
 use Rattle.gs_inputs.specs.Sources.{FilesSeen}
 use Rattle.gs_node_run.specs.Addresses.{asks_of}
 use Rattle.gs_node_run.specs.Words.{Order, order_of}
@@ -24,10 +24,6 @@ params_of plan v = params_for plan v
 -- and what it asks its ports for
 abbrev pub asks_for_node : Plan → ℕ → List Ask
 asks_for_node plan v = asks_of (text_of plan) (graph_of plan) v
-
--- a number that no node of the plan has
-abbrev pub node_refused : ℕ → Answer
-node_refused v = line status.InputRefused (codes "node refused: " ++ decimal v)
 
 -- what refuses an order: its plan, or then its node
 abbrev pub IsOrderRefused : FilesSeen → Order → Answer → Type 0

@@ -3,8 +3,9 @@ ghost use Rattle.gs_units.specs.Params.{AreValid};
 ghost use Rattle.gs_plan.specs.Plans.{graph_of};
 ghost use Rattle.gs_plan.specs.declared.plan.Plan.{Plan};
 ghost use Rattle.gs_cli.specs.inside.Stops.{StopsWith};
+ghost use Rattle.gs_inputs.specs.Plans.{node_refused};
 ghost use Rattle.gs_inputs.specs.Sources.{seen};
-ghost use Rattle.gs_node_run.specs.Nodes.{IsRefused, Names, node_refused, params_of};
+ghost use Rattle.gs_node_run.specs.Nodes.{IsRefused, Names, params_of};
 ghost use Rattle.gs_node_run.specs.Words.{Order};
 ghost use Rattle.gs_node_run.specs.inside.Jobs.{IsJobOf};
 

@@ -7,9 +7,11 @@ ghost use Rattle.gs_net.specs.declared.lending.Ask.{Ask};
 ghost use Rattle.gs_topo.specs.Graph.{neighbours_of};
 ghost use Rattle.gs_plan.specs.Plans.{graph_of, text_of};
 ghost use Rattle.gs_plan.specs.declared.plan.Plan.{Plan};
+ghost use Rattle.gs_inputs.specs.AtHand.{IsCompleted};
 ghost use Rattle.gs_inputs.specs.Sources.{seen};
 ghost use Rattle.gs_node.specs.Handing.{HandedIn};
 ghost use Rattle.gs_node_run.specs.Addresses.{answers_at, asks_for, receives_at};
+ghost use Rattle.gs_node_run.specs.Completeness.{IsUnhindered};
 ghost use Rattle.gs_node_run.specs.Lending.{Borrowed};
 ghost use Rattle.gs_node_run.specs.Lines.{Says, plain_line};
 ghost use Rattle.gs_node_run.specs.Nodes.{Names, asks_for_node, params_of};
@@ -102,6 +104,13 @@ where
         (K.bytes trace.old) (K.bytes trace.new) (K.faults trace.old) (K.faults trace.new)) }
     ensures whole { result.status ≡ Status.Done → WasServed result.left × IfServed result.left (λ ledger seats.
         Appends (K.bytes trace.old) (K.bytes trace.new) (trace_of ledger)) }
+
+    // Where nothing keeps it from its end, the run is done, or memory was short.
+    ensures completes { IsUnhindered (seen (F.content files.old) (F.faults files.old) (F.faults files.new)) (map string_bytes words.now)
+        (C.left clock) result.left
+        (faults (C.faults (clock_left result.left)) (V.faults result.view_clock) (count (P.faults ports.old) (P.faults ports.new))
+        (count (W.faults crew.old) (W.faults crew.new)) (count (K.faults trace.old) (K.faults trace.new)))
+        → IsCompleted result.status }
 {
     let Job {
         params,

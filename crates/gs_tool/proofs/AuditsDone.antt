@@ -1,5 +1,5 @@
 -- An audit that ends with `Done` keeps its bounds, and where nothing fails audits and replays are done.
-use Rattle.std.proofs.Common.{◌≡◌, ◌≢◌, ℕ, ◌<◌, ◌≤◌, inl, inr, List, length, Option, Some, None, IfSome, IsSomeAnd, arith, refl, sym, ◌∙◌, ap, subst}
+use Rattle.std.proofs.Common.{◌≡◌, ℕ, ◌<◌, inl, inr, List, length, Option, Some, None, IfSome, IsSomeAnd, arith, refl, sym, ◌∙◌, ap, subst}
 use Rattle.gs_io.specs.Held.{Appends}
 use Rattle.gs_planfile.specs.declared.text.PlanText.{PlanText}
 use Rattle.gs_plan.specs.Nodes.{params_in}
@@ -24,13 +24,14 @@ use Rattle.gs_tool.specs.AuditHeadline.{AuditsKeepBounds, IsAuditWithin}
 use Rattle.gs_tool.specs.Audited.{IsAudited, IsReplayed, audit_answer, replay_answer}
 use Rattle.gs_tool.specs.AuditsComplete.{AuditsComplete, HasTrace, IsAllowedTrace, IsTakenTrace}
 use Rattle.gs_tool.specs.Commands.{Command}
-use Rattle.gs_tool.specs.Completeness.{HasPlan}
+use Rattle.gs_inputs.specs.AtHand.{HasPlan}
 use Rattle.gs_inputs.specs.Plans.{plan_in}
 use Rattle.gs_tool.specs.Runs.{IsAnswer, IsCommandAnswer}
 use Rattle.gs_inputs.specs.Sources.{FilesSeen, IsFault}
 use Rattle.gs_tool.specs.TraceInputs.{AreNoTraceInputs, IsAnswerAlong, IsTrace}
 use Rattle.gs_inputs.specs.declared.source.Kind.TheVariants as kind
-use Rattle.gs_tool.proofs.Completing.{is_completed, never_refused, never_unread, same_plan}
+use Rattle.gs_inputs.proofs.AtHand.{never_refused, never_unread, same_plan}
+use Rattle.gs_tool.proofs.Completing.{is_completed}
 use Rattle.gs_inputs.proofs.Refusing.{IsRefusal, fault_refuses, plan_refusal, refuses}
 
 -- ---- inputs

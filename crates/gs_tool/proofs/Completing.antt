@@ -1,7 +1,6 @@
 -- Where all inputs are at hand and accepted, a command gives the answer of its own.
-use Rattle.std.proofs.Common.{◌≡◌, ℕ, ◌<◌, inl, inr, ◌==◌, Bool, true, false, List, length, Option, Some, None, Ok, Err}
-use Rattle.std.proofs.Common.{IfSome, IsSomeAnd, arith, sym, ◌∙◌, ap, subst}
-use Rattle.std.proofs.lemmas.Bool.{eq-eqb}
+use Rattle.std.proofs.Common.{◌≡◌, ℕ, inl, inr, List, Option, Some, None, Ok, Err}
+use Rattle.std.proofs.Common.{sym, ◌∙◌, ap, subst}
 use Rattle.std.proofs.lemmas.Result.{IfOk-at_ok}
 use Rattle.gs_io.specs.Causes.{Rose}
 use Rattle.gs_planfile.specs.declared.text.PlanText.{PlanText}
@@ -17,67 +16,23 @@ use Rattle.gs_tdma.specs.Faults.{slot_fault}
 use Rattle.gs_cli.specs.Answers.{Answer, Gives}
 use Rattle.gs_tool.specs.Commands as command
 use Rattle.gs_tool.specs.Commands.{Command, command_of}
-use Rattle.gs_tool.specs.Completeness.{Completes, HasPlan, HasScript, IsAtHand, IsCompleted, Plays}
+use Rattle.gs_inputs.specs.AtHand.{HasPlan, HasScript, IsCompleted}
+use Rattle.gs_inputs.proofs.AtHand.{never_no_plan, never_refused, never_unread, same_plan, same_source}
+use Rattle.gs_tool.specs.Completeness.{Completes, Plays}
 use Rattle.gs_inputs.specs.Inputs.{AreNoInputs, IsAnswerOn, IsAnswerOver}
 use Rattle.gs_tool.specs.Orders.{ordered}
-use Rattle.gs_inputs.specs.Plans.{plan_in}
 use Rattle.gs_tool.specs.Runs.{IsAnswer, IsCommandAnswer, IsMigrated, IsPlanned, IsSlotted, IsSlottedOr, IsTold, played, told}
 use Rattle.gs_inputs.specs.Scripts.{script_in}
 use Rattle.gs_tool.specs.Settled.{settled}
 use Rattle.gs_tool.specs.Slotted.{slotted}
-use Rattle.gs_inputs.specs.Sources.{FilesSeen, Source, Count, Text, IsRead, IsUnread}
+use Rattle.gs_inputs.specs.Sources.{FilesSeen, Source, IsRead}
 use Rattle.gs_tool.specs.Traced.{IsTraced, traced_status}
-use Rattle.gs_inputs.specs.declared.source.Kind.{Kind}
 use Rattle.gs_inputs.specs.declared.source.Kind.TheVariants as kind
 use Rattle.gs_cli.specs.declared.status.Status.{Status}
 use Rattle.gs_cli.specs.declared.status.Status.TheVariants as status
 use Rattle.gs_tool.proofs.Generating.{generated_done}
-use Rattle.gs_tool.proofs.Results.{no_refusal, one_value}
+use Rattle.gs_inputs.proofs.Results.{no_refusal, one_value}
 use Rattle.gs_tool.proofs.ScriptsRead.{script_is_read}
-
--- what is at hand is what was read
-same_source : (files : FilesSeen) (kind : Kind) (word : List ℕ) (here read : Source)
-    → IsAtHand files kind word here → IsRead files kind word read → here ≡ read
-same_source files kind word (Count n) (Count m) (built, is) (built_too, is_too) = ap Count (is ∙ sym is_too)
-same_source files kind word (Count n) (Text bytes) (built, is) (is_file, holds) =
-    absurd (let both : true ≡ false = sym built ∙ is_file in cc)
-same_source files kind word (Text bytes) (Count n) (told, is_file, tells, has, short, calm) (built, is) =
-    absurd (let both : true ≡ false = sym built ∙ is_file in cc)
-same_source files kind word (Text bytes) (Text read) (told, is_file, tells, has, short, calm) (is_file_too, (holds, short_too)) =
-    let said : told word ≡ Some read =
-    subst (λ (c : Option (List ℕ → Option (List ℕ))). IfSome c (λ told. told word ≡ Some read)) tells holds in
-    let one : Some bytes ≡ Some read = sym has ∙ said in
-    let same : bytes ≡ read = cc in ap Text same
-
--- what is at hand was read
-pub never_unread : (files : FilesSeen) (kind : Kind) (word : List ℕ) (here : Source) (answer : Answer)
-    → IsAtHand files kind word here → IsUnread files kind word answer → ⊥
-never_unread files kind word (Count n) answer (built, is) (is_file, fault) =
-    let both : true ≡ false = sym built ∙ is_file in cc
-never_unread files kind word (Text bytes) answer (told, is_file, tells, has, short, calm) (is_file_too, fault) = elim fault [
-  | inl long ↦ (
-      let longer : IsSomeAnd (told word) (λ held. 1048576 < length held) =
-      subst (λ (c : Option (List ℕ → Option (List ℕ))). IfSome c (λ told. IsSomeAnd (told word) (λ held. 1048576 < length held)))
-      tells long.0 in
-      let over : 1048576 < length bytes = subst (λ (o : Option (List ℕ)). IsSomeAnd o (λ held. 1048576 < length held)) has longer in
-      omega arith
-      )
-  | inr failed ↦ calm failed.0
-]
-
--- a plan at hand has its text
-pub same_plan : (files : FilesSeen) (word : List ℕ) (text found : PlanText) (source : Source)
-    → HasPlan files word text → IsRead files kind.Plan word source → plan_in source ≡ Ok found → found ≡ text
-same_plan files word text found source (here, at_hand, accepted) is_read is =
-    let same : here ≡ source = same_source files kind.Plan word here source at_hand is_read in
-    one_value (plan_in source) found text is (ap plan_in (sym same) ∙ accepted)
-
--- and is not refused
-pub never_refused : (files : FilesSeen) (word : List ℕ) (text : PlanText) (source : Source) (answer : Answer)
-    → HasPlan files word text → IsRead files kind.Plan word source → plan_in source ≡ Err answer → ⊥
-never_refused files word text source answer (here, at_hand, accepted) is_read refused =
-    let same : here ≡ source = same_source files kind.Plan word here source at_hand is_read in
-    no_refusal (plan_in source) text answer (ap plan_in (sym same) ∙ accepted) refused
 
 same_script : (files : FilesSeen) (word : List ℕ) (text : PlanText) (said found : Said) (source : Source)
     → HasScript files word text said → IsRead files kind.Script word source → script_in text source ≡ Ok found → found ≡ said
@@ -96,10 +51,7 @@ pub on_at_hand : (Is : Plan → Answer → Type 0) (files : FilesSeen) (word : L
     → HasPlan files word text → IsAnswerOn files word Is answer → (plan : Plan) × (text_of plan ≡ text) × Is plan answer
 on_at_hand Is files word text answer has (inl (plan, (source, is_read, accepted), is)) =
     (plan, same_plan files word text (text_of plan) source has is_read accepted, is)
-on_at_hand Is files word text answer (here, at_hand, accepted) (inr (inl unread)) =
-    absurd (never_unread files kind.Plan word here answer at_hand unread)
-on_at_hand Is files word text answer has (inr (inr (source, is_read, refused))) =
-    absurd (never_refused files word text source answer has is_read refused)
+on_at_hand Is files word text answer has (inr no_plan) = absurd (never_no_plan files word text answer has no_plan)
 
 -- what keeps a command from inputs does not come
 inputs_at_hand : (files : FilesSeen) (plan_word script_word : List ℕ) (text : PlanText) (said : Said) (answer : Answer)

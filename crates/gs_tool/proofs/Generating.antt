@@ -14,7 +14,7 @@ use Rattle.gs_inputs.specs.Scripts.{script_in}
 use Rattle.gs_inputs.specs.Sources.{Text}
 use Rattle.gs_tool.specs.declared.command.Part.{Part}
 use Rattle.gs_tool.specs.declared.command.Part.TheVariants as part
-use Rattle.gs_tool.proofs.Results.{no_refusal, one_value}
+use Rattle.gs_inputs.proofs.Results.{no_refusal, one_value}
 
 -- the answer on bytes that are accepted
 of_accepted : (Is : Plan → Said → Answer → Type 0) (plan_bytes script_bytes : List ℕ) (text : PlanText) (said : Said)

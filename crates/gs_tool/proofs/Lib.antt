@@ -7,7 +7,6 @@ pub mod InRange
 pub mod OrderTexts
 pub mod OrdersDone
 pub mod Playing
-pub mod Results
 pub mod ScriptsRead
 pub mod SettleTexts
 pub mod SlotTexts

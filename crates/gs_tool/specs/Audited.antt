@@ -24,6 +24,7 @@ use Rattle.gs_audit.specs.declared.verdict.Verdict.{Verdict}
 use Rattle.gs_audit.specs.declared.verdict.Verdict.TheVariants as world
 use Rattle.gs_cli.specs.Answers.{Answer, line}
 use Rattle.gs_cli.specs.declared.status.Status.TheVariants as status
+use Rattle.gs_inputs.specs.Plans.{node_refused}
 
 -- bytes that are no trace
 abbrev pub trace_refused : TraceFault → Answer
@@ -50,10 +51,6 @@ IsAudited plan bytes answer =
     × (answer ≡ trace_refused fault))
 
 -- ---- replay
-
--- a number that no node of the plan has
-abbrev pub node_refused : ℕ → Answer
-node_refused v = line status.InputRefused (codes "node refused: " ++ decimal v)
 
 abbrev pub mode_word : Mode → List ℕ
 mode_word Slow = codes "slow"

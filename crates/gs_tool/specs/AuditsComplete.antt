@@ -15,7 +15,7 @@ use Rattle.gs_trace.specs.declared.start.WorldStart.{WorldStart}
 use Rattle.gs_audit.specs.NodeVerdicts.{TakesAll, node_verdict_of}
 use Rattle.gs_audit.specs.Verdicts.{world_at}
 use Rattle.gs_tool.specs.Commands.{Audit, Replay, command_of}
-use Rattle.gs_tool.specs.Completeness.{HasPlan, IsCompleted}
+use Rattle.gs_inputs.specs.AtHand.{HasPlan, IsCompleted}
 use Rattle.gs_inputs.specs.Sources.{FilesSeen, HasFailed}
 use Rattle.gs_cli.specs.declared.status.Status.{Status}
 

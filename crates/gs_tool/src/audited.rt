@@ -4,9 +4,10 @@ ghost use Rattle.std.specs.Prelude.{◌≡◌, ◌++◌, IfOk, codes, decimal, l
 ghost use Rattle.gs_units.specs.Params.{AreValid};
 ghost use Rattle.gs_cli.specs.inside.Reply.{answer_in};
 ghost use Rattle.gs_cli.specs.inside.Stops.{EndsWith};
-ghost use Rattle.gs_tool.specs.Audited.{IsAudited, IsReplayOf, IsReplayed, audit_answer, mode_word, node_refused};
+ghost use Rattle.gs_tool.specs.Audited.{IsAudited, IsReplayOf, IsReplayed, audit_answer, mode_word};
 ghost use Rattle.gs_tool.specs.Audited.{refused_at, replay_answer, trace_refused};
 ghost use Rattle.gs_tool.specs.inside.AuditSeen.{HasLevels};
+ghost use Rattle.gs_inputs.specs.Plans.{node_refused};
 ghost use Rattle.gs_inputs.specs.Sources.{seen};
 ghost use Rattle.gs_tool.specs.TraceInputs.{IsAnswerAlong};
 

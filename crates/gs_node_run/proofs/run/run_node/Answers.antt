@@ -10,6 +10,8 @@ use Rattle.gs_node_run.specs.Addresses.{asks_for}
 use Rattle.gs_node_run.specs.Lending.{Borrowed}
 use Rattle.gs_node_run.specs.Nodes.{asks_for_node, params_of}
 use Rattle.gs_node_run.proofs.Getting.{borrowed_none}
+use Rattle.gs_node_run.specs.declared.ends.Left.TheVariants as left
+use Rattle.gs_node_run.proofs.Completing.{completed}
 use Rattle.gs_node_run.proofs.Handed.{both_served, clock_as, handed_as}
 use Rattle.gs_node_run.proofs.Unserved.{board_shows, refused_ends, unlent_shows}
 use Rattle.gs_node_run.proofs.run.run_node.Goals as goal
@@ -79,3 +81,12 @@ returns-in-Ok-new-clause-unserved g c =
     clock_as c.run_board.result.left _ _
     (λ clock is. inr (inl (ok.0, ok.1, ok.2, unlent_shows n _ c.run_board.result.status is.0, is.1)))
     c.run_board.ensures.unlent
+
+pub returns-in-Err-clause-completes : goal.returns-in-Err-clause-completes
+returns-in-Err-clause-completes g c = completed {c = g.C.Clock} _ _ _ (left.Clock c.args.clock) _ _ c.refuse.result (returns-in-Err-clause-unserved g c) tt
+
+pub returns-clause-completes : goal.returns-clause-completes
+returns-clause-completes g c = completed {c = g.C.Clock} _ _ _ (left.Clock c.in-Err-new.clock) _ _ c.stopped.result (returns-clause-unserved g c) tt
+
+pub returns-in-Ok-new-clause-completes : goal.returns-in-Ok-new-clause-completes
+returns-in-Ok-new-clause-completes g c = completed {c = g.C.Clock} _ _ _ c.run_board.result.left _ _ c.run_board.result.status (returns-in-Ok-new-clause-unserved g c) c.run_board.ensures.ended
