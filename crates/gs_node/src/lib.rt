@@ -17,3 +17,7 @@ mod serving;
 mod starts;
 #[cfg(test)]
 mod tests;
+#[cfg(test)]
+mod tests_asked;
+#[cfg(test)]
+mod tests_star;

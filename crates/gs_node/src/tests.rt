@@ -18,9 +18,10 @@ use std::thread::Threads;
 
 /// An inlet that lets the timer go when it has ended.
 #[derive(Drop)]
-struct Waking<'a> {
-    inlet: MemInlet,
-    gate: &'a HoldGate,
+pub struct Waking<'a> {
+    pub inlet: MemInlet,
+    /// What holds the timer; none where another inlet lets it go.
+    pub gate: Option<&'a HoldGate>,
 }
 
 impl Inlet for Waking<'_> {
@@ -37,7 +38,9 @@ impl Inlet for Waking<'_> {
     fn receive(&mut self, into: &mut [u8; 64]) -> Result<Got, Failed> {
         let got = self.inlet.receive(into);
         if got == Ok(Got::Ended) {
-            self.gate.set();
+            if let Some(gate) = self.gate {
+                gate.set();
+            }
         }
         got
     }
@@ -85,7 +88,7 @@ fn inlets<'a>(
     let mut inlets = Vec::new(alloc);
     inlets.push(Waking {
         inlet: MemInlet::new(items, Vec::new(alloc)),
-        gate,
+        gate: Some(gate),
     })?;
     Ok(inlets)
 }
@@ -111,39 +114,50 @@ fn request(alloc: Global, number: u8) -> Result<Item, AllocError> {
 
 /// What a run came to.
 #[derive(Debug, Drop)]
-struct Outcome {
-    end: End,
+pub struct Outcome {
+    pub end: End,
     /// How many entries each seat has, the timer's first.
-    told: Vec<usize>,
-    events: usize,
-    dropped: u64,
-    sent: Vec<(u32, [u8; 40])>,
-    replies: Vec<[u8; 24]>,
+    pub told: Vec<usize>,
+    pub events: usize,
+    pub dropped: u64,
+    pub sent: Vec<(u32, [u8; 40])>,
+    pub replies: Vec<[u8; 24]>,
     /// The place of the last snap, where there is a publisher.
-    shown: Option<u64>,
+    pub shown: Option<u64>,
 }
 
-/// Runs node `node` of a pair on these items, with so many turns, once its inlet has ended.
-fn run_pair<R: Threads + Wait + Sync, W: Crew>(
+/// Runs a node on this board and these inlets, with so many turns.
+pub fn run_on<'a, R: Threads + Wait + Sync, W: Crew>(
     rt: &R,
     alloc: Global,
     crew: &mut W,
-    node: u32,
-    items: Vec<Item>,
+    board: Board<MemClock>,
+    inlets: Vec<Waking<'a>>,
+    gate: &'a HoldGate,
     requests: Vec<Item>,
     ticks: u32,
 ) -> Result<Outcome, Fail>
-    requires { node < 2 }
+    requires open { (ledger_in board).closed ≡ false }
+    requires empty { (ledger_in board).journal ≡ [] }
+    requires unissued { (ledger_in board).issued ≡ [] }
+    requires count { length inlets.items ≡ length (ledger_in board).core.params.links }
+    requires fresh { All IsFresh (map (λ w. Some w.inlet.tale) inlets.items) }
 {
-    let gate = HoldGate::new();
-    let board = board(alloc, node, 1 - node)?;
-    let inlets = inlets(alloc, items, &gate)?;
     let outlet = MemOutlet::new(alloc, Vec::new(alloc));
     let door = MemDoor::new(alloc, requests, Vec::new(alloc));
     let view_clock = MemClock::new([900].to_vec(alloc)?, Vec::new(alloc));
     let served = serve(
-        rt, alloc, board, inlets, outlet, door, view_clock, crew, &gate, ticks, 0,
+        rt, alloc, board, inlets, outlet, door, view_clock, crew, gate, ticks, 0,
     );
+    outcome_of(rt, alloc, served)
+}
+
+/// What is told of a run that has ended.
+fn outcome_of<R: Wait>(
+    rt: &R,
+    alloc: Global,
+    served: Served<MemClock, MemClock, Waking<'_>, MemOutlet, MemDoor>,
+) -> Result<Outcome, Fail> {
     let Served {
         end,
         board,
@@ -176,6 +190,24 @@ fn run_pair<R: Threads + Wait + Sync, W: Crew>(
         replies: door.replies().to_vec(alloc)?,
         shown,
     })
+}
+
+/// Runs node `node` of a pair on these items, with so many turns, once its inlet has ended.
+fn run_pair<R: Threads + Wait + Sync, W: Crew>(
+    rt: &R,
+    alloc: Global,
+    crew: &mut W,
+    node: u32,
+    items: Vec<Item>,
+    requests: Vec<Item>,
+    ticks: u32,
+) -> Result<Outcome, Fail>
+    requires { node < 2 }
+{
+    let gate = HoldGate::new();
+    let board = board(alloc, node, 1 - node)?;
+    let inlets = inlets(alloc, items, &gate)?;
+    run_on(rt, alloc, crew, board, inlets, &gate, requests, ticks)
 }
 
 #[test]
