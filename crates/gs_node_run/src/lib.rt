@@ -15,5 +15,13 @@ mod run;
 mod serving;
 #[cfg(test)]
 mod tests;
+#[cfg(test)]
+mod tests_pair;
+#[cfg(test)]
+mod tests_ports;
+#[cfg(test)]
+mod tests_star;
+#[cfg(test)]
+mod tests_wire;
 mod tracing;
 mod words;
