@@ -9,6 +9,7 @@ pub use serving::{Served, serve};
 mod choosing;
 mod ends;
 mod finishing;
+mod hands;
 mod joins;
 mod laws;
 mod running;

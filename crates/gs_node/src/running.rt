@@ -4,9 +4,10 @@ ghost use Rattle.gs_io.specs.Causes.{Rose};
 ghost use Rattle.gs_board.specs.Slips.{SameSeat};
 ghost use Rattle.gs_callers.specs.Snaps.{first_snap};
 ghost use Rattle.gs_callers.specs.Timed.{IsCutOff, IsInStep};
-ghost use Rattle.gs_node.specs.inside.Begun.{IsReady, of_task};
-ghost use Rattle.gs_node.specs.inside.Runs.{HasReasons, HasRun, begun_with, failed_in, leavings_of, reasons_of};
+ghost use Rattle.gs_node.specs.inside.Begun.{AreReady, of_task};
+ghost use Rattle.gs_node.specs.inside.Runs.{HasReasons, HasRun, begun_by, failed_in, leavings_of, reasons_of};
 
+use crate::hands::{Course, Hands, Room};
 use crate::joins::join_all;
 use crate::starts::{Begun, start_all, start_one};
 use gs_board::{Seat, Shared};
@@ -62,26 +63,19 @@ pub(crate) fn beside<
     board: &Shared<C>,
     params: &NodeParams,
     first: Snap,
-    timer: Seat<C>,
-    seats: Vec<Seat<C>>,
-    inlets: Vec<I>,
-    others: Vec<Seat<C>>,
-    back: Vec<I>,
-    outlet: O,
-    door: D,
-    view_clock: V,
+    hands: Hands<C, V, I, O, D>,
+    room: Room<C, I>,
     crew: &mut W,
     gate: &G,
-    ticks: u32,
-    pace: u64,
+    course: Course,
 ) -> Ran<C, V, I, O, D>
-    requires ready { IsReady params.now timer seats.items (map I.tale inlets.items) (D.Inlet.tale door) (D.Inlet.replies door) (O.sent outlet) }
-    requires others { (others.items ≡ []) × (vec_len inlets ≤ vec_capacity others) }
-    requires back { (back.items ≡ []) × (vec_len inlets ≤ vec_capacity back) }
-    requires first { first ≡ first_snap timer.begun }
-    ensures ran { HasRun (begun_with I.Inlet D.Inlet params.now timer inlets.items door ticks)
-        (map (λ s. s.whose) seats.items) (leavings_of I.Inlet O.Outlet D.Inlet result) }
-    ensures reasons { HasReasons (begun_with I.Inlet D.Inlet params.now timer inlets.items door ticks)
+    requires ready { AreReady I.Inlet O.Outlet D.Inlet params.now hands }
+    requires seats { (room.seats.items ≡ []) × (vec_len hands.inlets ≤ vec_capacity room.seats) }
+    requires inlets { (room.inlets.items ≡ []) × (vec_len hands.inlets ≤ vec_capacity room.inlets) }
+    requires first { first ≡ first_snap hands.timer.begun }
+    ensures ran { HasRun (begun_by I.Inlet D.Inlet params.now hands course.ticks)
+        (map (λ s. s.whose) hands.seats.items) (leavings_of I.Inlet O.Outlet D.Inlet result) }
+    ensures reasons { HasReasons (begun_by I.Inlet D.Inlet params.now hands course.ticks)
         (leavings_of I.Inlet O.Outlet D.Inlet result) (failed_in V.Clock I.Inlet O.Outlet D.Inlet result) (reasons_of result) }
     ensures refused { result.refused ≡ true → Rose (W.faults crew.old) (W.faults crew.new) }
 {
@@ -89,20 +83,19 @@ pub(crate) fn beside<
         thread::scope_env(),
         rt,
         move |scope| -> (Ran<C, V, I, O, D>, &mut W)
-            requires ready { IsReady params.now timer seats.items (map I.tale inlets.items) (D.Inlet.tale door) (D.Inlet.replies door) (O.sent outlet) }
-            requires others { (others.items ≡ []) × (vec_len inlets ≤ vec_capacity others) }
-            requires back { (back.items ≡ []) × (vec_len inlets ≤ vec_capacity back) }
-            requires first { first ≡ first_snap timer.begun }
-            ensures ran { HasRun (begun_with I.Inlet D.Inlet params.entry.now timer inlets.items door ticks)
-                (map (λ s. s.whose) seats.items) (leavings_of I.Inlet O.Outlet D.Inlet result.0) }
-            ensures reasons { HasReasons (begun_with I.Inlet D.Inlet params.entry.now timer inlets.items door ticks)
+            requires ready { AreReady I.Inlet O.Outlet D.Inlet params.now hands }
+            requires seats { (room.seats.items ≡ []) × (vec_len hands.inlets ≤ vec_capacity room.seats) }
+            requires inlets { (room.inlets.items ≡ []) × (vec_len hands.inlets ≤ vec_capacity room.inlets) }
+            requires first { first ≡ first_snap hands.timer.begun }
+            ensures ran { HasRun (begun_by I.Inlet D.Inlet params.entry.now hands course.ticks)
+                (map (λ s. s.whose) hands.seats.items) (leavings_of I.Inlet O.Outlet D.Inlet result.0) }
+            ensures reasons { HasReasons (begun_by I.Inlet D.Inlet params.entry.now hands course.ticks)
                 (leavings_of I.Inlet O.Outlet D.Inlet result.0) (failed_in V.Clock I.Inlet O.Outlet D.Inlet result.0) (reasons_of result.0) }
             ensures refused { result.0.refused ≡ true → Rose (W.faults crew.entry.now) (W.faults result.1.now) }
             ensures same { result.1.ghost_name ≡ crew.entry.ghost_name }
         {
             let ran = work(
-                rt, alloc, scope, board, params, first, timer, seats, inlets, others, back, outlet,
-                door, view_clock, &mut *crew, gate, ticks, pace,
+                rt, alloc, scope, board, params, first, hands, room, &mut *crew, gate, course,
             );
             (ran, crew)
         },
@@ -129,66 +122,57 @@ fn work<
     board: &'e Shared<C>,
     params: &'e NodeParams,
     first: Snap,
-    timer: Seat<C>,
-    seats: Vec<Seat<C>>,
-    inlets: Vec<I>,
-    others: Vec<Seat<C>>,
-    back: Vec<I>,
-    outlet: O,
-    door: D,
-    view_clock: V,
+    hands: Hands<C, V, I, O, D>,
+    room: Room<C, I>,
     crew: &mut W,
     gate: &G,
-    ticks: u32,
-    pace: u64,
+    course: Course,
 ) -> Ran<C, V, I, O, D>
-    requires ready { IsReady params.now timer seats.items (map I.tale inlets.items) (D.Inlet.tale door) (D.Inlet.replies door) (O.sent outlet) }
-    requires others { (others.items ≡ []) × (vec_len inlets ≤ vec_capacity others) }
-    requires back { (back.items ≡ []) × (vec_len inlets ≤ vec_capacity back) }
-    requires first { first ≡ first_snap timer.begun }
-    ensures ran { HasRun (begun_with I.Inlet D.Inlet params.now timer inlets.items door ticks)
-        (map (λ s. s.whose) seats.items) (leavings_of I.Inlet O.Outlet D.Inlet result) }
-    ensures reasons { HasReasons (begun_with I.Inlet D.Inlet params.now timer inlets.items door ticks)
+    requires ready { AreReady I.Inlet O.Outlet D.Inlet params.now hands }
+    requires seats { (room.seats.items ≡ []) × (vec_len hands.inlets ≤ vec_capacity room.seats) }
+    requires inlets { (room.inlets.items ≡ []) × (vec_len hands.inlets ≤ vec_capacity room.inlets) }
+    requires first { first ≡ first_snap hands.timer.begun }
+    ensures ran { HasRun (begun_by I.Inlet D.Inlet params.now hands course.ticks)
+        (map (λ s. s.whose) hands.seats.items) (leavings_of I.Inlet O.Outlet D.Inlet result) }
+    ensures reasons { HasReasons (begun_by I.Inlet D.Inlet params.now hands course.ticks)
         (leavings_of I.Inlet O.Outlet D.Inlet result) (failed_in V.Clock I.Inlet O.Outlet D.Inlet result) (reasons_of result) }
     ensures refused { result.refused ≡ true → Rose (W.faults crew.old) (W.faults crew.new) }
 {
     let mut begun = Vec::new(alloc);
-    let Ok(()) = begun.reserve(inlets.len()) else {
-        return untouched(
-            params, timer, seats, inlets, outlet, door, view_clock, ticks,
-        );
+    let Ok(()) = begun.reserve(hands.inlets.len()) else {
+        return untouched(params, hands, course);
     };
     let Ok((publisher, reader)) = Publisher::new(alloc, params.rate, first) else {
-        return untouched(
-            params, timer, seats, inlets, outlet, door, view_clock, ticks,
-        );
+        return untouched(params, hands, course);
     };
     run_all(
-        rt, scope, board, params, publisher, reader, begun, timer, seats, inlets, others, back,
-        outlet, door, view_clock, crew, gate, ticks, pace,
+        rt, scope, board, params, publisher, reader, begun, hands, room, crew, gate, course,
     )
 }
 
 /// What is left where nothing was started.
 fn untouched<C: Clock, V: Clock, I: Inlet, O: Outlet, D: Door>(
     params: &NodeParams,
-    timer: Seat<C>,
-    seats: Vec<Seat<C>>,
-    inlets: Vec<I>,
-    outlet: O,
-    door: D,
-    view_clock: V,
-    ticks: u32,
+    hands: Hands<C, V, I, O, D>,
+    course: Course,
 ) -> Ran<C, V, I, O, D>
-    requires ready { IsReady params.now timer seats.items (map I.tale inlets.items) (D.Inlet.tale door) (D.Inlet.replies door) (O.sent outlet) }
-    ensures ran { HasRun (begun_with I.Inlet D.Inlet params.now timer inlets.items door ticks)
-        (map (λ s. s.whose) seats.items) (leavings_of I.Inlet O.Outlet D.Inlet result) }
-    ensures reasons { HasReasons (begun_with I.Inlet D.Inlet params.now timer inlets.items door ticks)
+    requires ready { AreReady I.Inlet O.Outlet D.Inlet params.now hands }
+    ensures ran { HasRun (begun_by I.Inlet D.Inlet params.now hands course.ticks)
+        (map (λ s. s.whose) hands.seats.items) (leavings_of I.Inlet O.Outlet D.Inlet result) }
+    ensures reasons { HasReasons (begun_by I.Inlet D.Inlet params.now hands course.ticks)
         (leavings_of I.Inlet O.Outlet D.Inlet result) (failed_in V.Clock I.Inlet O.Outlet D.Inlet result) (reasons_of result) }
     ensures unrefused { result.refused ≡ false }
 {
     let _params = params;
-    let _ticks = ticks;
+    let _course = course;
+    let Hands {
+        timer,
+        seats,
+        inlets,
+        outlet,
+        door,
+        view_clock,
+    } = hands;
     Ran {
         timer,
         others: seats,
@@ -227,30 +211,35 @@ fn run_all<
     publisher: Publisher,
     reader: Reader,
     begun: Vec<Begun<'s, Listening<'e, R, C, I>>>,
-    timer: Seat<C>,
-    seats: Vec<Seat<C>>,
-    inlets: Vec<I>,
-    others: Vec<Seat<C>>,
-    back: Vec<I>,
-    outlet: O,
-    door: D,
-    view_clock: V,
+    hands: Hands<C, V, I, O, D>,
+    room: Room<C, I>,
     crew: &mut W,
     gate: &G,
-    ticks: u32,
-    pace: u64,
+    course: Course,
 ) -> Ran<C, V, I, O, D>
-    requires ready { IsReady params.now timer seats.items (map I.tale inlets.items) (D.Inlet.tale door) (D.Inlet.replies door) (O.sent outlet) }
-    requires others { (others.items ≡ []) × (vec_len inlets ≤ vec_capacity others) }
-    requires back { (back.items ≡ []) × (vec_len inlets ≤ vec_capacity back) }
-    requires begun { (begun.items ≡ []) × (vec_len inlets ≤ vec_capacity begun) }
-    requires first { publisher ≡ first_snap timer.begun ∷ [] }
-    ensures ran { HasRun (begun_with I.Inlet D.Inlet params.now timer inlets.items door ticks)
-        (map (λ s. s.whose) seats.items) (leavings_of I.Inlet O.Outlet D.Inlet result) }
-    ensures reasons { HasReasons (begun_with I.Inlet D.Inlet params.now timer inlets.items door ticks)
+    requires ready { AreReady I.Inlet O.Outlet D.Inlet params.now hands }
+    requires seats { (room.seats.items ≡ []) × (vec_len hands.inlets ≤ vec_capacity room.seats) }
+    requires inlets { (room.inlets.items ≡ []) × (vec_len hands.inlets ≤ vec_capacity room.inlets) }
+    requires begun { (begun.items ≡ []) × (vec_len hands.inlets ≤ vec_capacity begun) }
+    requires first { publisher ≡ first_snap hands.timer.begun ∷ [] }
+    ensures ran { HasRun (begun_by I.Inlet D.Inlet params.now hands course.ticks)
+        (map (λ s. s.whose) hands.seats.items) (leavings_of I.Inlet O.Outlet D.Inlet result) }
+    ensures reasons { HasReasons (begun_by I.Inlet D.Inlet params.now hands course.ticks)
         (leavings_of I.Inlet O.Outlet D.Inlet result) (failed_in V.Clock I.Inlet O.Outlet D.Inlet result) (reasons_of result) }
     ensures refused { result.refused ≡ true → Rose (W.faults crew.old) (W.faults crew.new) }
 {
+    let Hands {
+        timer,
+        seats,
+        inlets,
+        outlet,
+        door,
+        view_clock,
+    } = hands;
+    let Room {
+        seats: others,
+        inlets: back,
+    } = room;
     let mut timer = timer;
     let mut outlet = outlet;
     let mut others = others;
@@ -271,8 +260,7 @@ fn run_all<
         &mut publisher,
         params.links.as_slice(),
         gate,
-        ticks,
-        pace,
+        course,
     );
     close(rt, board);
     let met = join_all(rt, params, begun, &mut others, &mut back);
@@ -309,23 +297,32 @@ fn run_unless<R: Wait, C: Clock, O: Outlet, G: Gate>(
     publisher: &mut Publisher,
     links: &[Link],
     gate: &G,
-    ticks: u32,
-    pace: u64,
+    course: Course,
 ) -> Result<(), TimerStop>
     requires timer { seat.old.whose ≡ None }
     requires new { seat.old.told ≡ [] }
     requires step { IsInStep links.now seat.old (O.sent outlet.old) publisher.old }
     ensures ok { OnOk result (IsInStep links.now seat.new (O.sent outlet.new) publisher.new) }
-    ensures all { OnOk result (length seat.new.told ≡ ticks) }
+    ensures all { OnOk result (length seat.new.told ≡ course.ticks) }
     ensures err { OnErr result (IsCutOff links.now seat.new (O.sent outlet.new) publisher.new) }
-    ensures most { length seat.new.told ≤ ticks }
+    ensures most { length seat.new.told ≤ course.ticks }
     ensures same { SameSeat seat.old seat.new }
     ensures cause { result ≡ Err TimerStop.Send → 0 < O.faults outlet.new }
 {
     if refused {
         return Err(TimerStop::NoThread);
     }
-    run_turns(rt, board, seat, outlet, publisher, links, gate, ticks, pace)
+    run_turns(
+        rt,
+        board,
+        seat,
+        outlet,
+        publisher,
+        links,
+        gate,
+        course.ticks,
+        course.pace,
+    )
 }
 
 /// Closes the board.

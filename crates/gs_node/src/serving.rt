@@ -12,6 +12,7 @@ ghost use Rattle.gs_node.specs.Serving.{DoneEnd, EveryEnd};
 
 use crate::ends::End;
 use crate::finishing::finish;
+use crate::hands::{Course, Hands, Room};
 use crate::running::beside;
 use crate::seating::{Ready, prepare};
 use gs_board::{Board, Seat};
@@ -147,9 +148,21 @@ fn run<
     } = ready;
     let first = first_of(board.begun());
     let lock = Mutex::new(board);
+    let hands = Hands {
+        timer,
+        seats,
+        inlets,
+        outlet,
+        door,
+        view_clock,
+    };
+    let room = Room {
+        seats: others,
+        inlets: back,
+    };
+    let course = Course { ticks, pace };
     let ran = beside(
-        rt, alloc, &lock, &params, first, timer, seats, inlets, others, back, outlet, door,
-        view_clock, crew, gate, ticks, pace,
+        rt, alloc, &lock, &params, first, hands, room, crew, gate, course,
     );
     finish(lock.into_inner(), ran, all)
 }

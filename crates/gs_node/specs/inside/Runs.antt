@@ -21,6 +21,7 @@ use Rattle.gs_respond.specs.declared.rests.Rest.TheVariants as rest
 use Rattle.gs_view.specs.declared.snaps.Snap.{Snap}
 use Rattle.gs_node.specs.Handing.{Failures, HandedIn, IsDropped}
 use Rattle.gs_node.specs.Serving.{IsUntouched, ShownSoFar, TimerSeat}
+use Rattle.gs_node.specs.declared.hands.Hands.{Hands}
 use Rattle.gs_node.specs.declared.running.Ran.{Ran}
 
 -- where there is a publisher, it has published all snaps of these entries
@@ -69,13 +70,13 @@ abbrev pub reasons_of : {C V I O D : Type 0} → Ran C V I O D → Reasons
 reasons_of ran = record { timer = ran.stop; responder = ran.rest; fault = ran.fault; short = ran.short }
 
 -- what is handed to the threads
-abbrev pub begun_with : {I D : Type 0} → inlet.Ghosts I → inlet.Ghosts D → NodeParams → Slip → List I → D → ℕ → HandedIn
-begun_with i d params timer inlets door ticks = record {
+abbrev pub begun_by : {C V I O D : Type 0} → inlet.Ghosts I → inlet.Ghosts D → NodeParams → Hands C V I O D → ℕ → HandedIn
+begun_by i d params hands ticks = record {
   params = params;
-  begun = timer.begun;
+  begun = hands.timer.begun;
   ticks = ticks;
-  inlets = map i.tale inlets;
-  door = d.tale door;
+  inlets = map i.tale hands.inlets.items;
+  door = d.tale hands.door;
 }
 
 -- what is true of what is left, whatever stopped the threads

@@ -20,16 +20,16 @@ run_unless-stop-requires-clause-step g c κs within = in_step_new _ _ _ _ c.requ
 pub join_all-met-requires-clause-seats : goal.join_all-met-requires-clause-seats
 join_all-met-requires-clause-seats g c κs within =
     let n = as_many _ _ _ _ c.start_all-refused.ensures.whose in
-    let m : length c.args.seats.items ≡ length c.args.inlets.items = mapped_as_many g.I.Inlet.tale _ _ c.requires.ready.count in
-    let le : vec_len c.start_all-refused.new.begun ≤ vec_capacity c.args.others = omega (arith, n, m, c.requires.others.1) in
-    (c.requires.others.0, le)
+    let m : length c.args.hands.seats.items ≡ length c.args.hands.inlets.items = mapped_as_many g.I.Inlet.tale _ _ c.requires.ready.count in
+    let le : vec_len c.start_all-refused.new.begun ≤ vec_capacity c.args.room.seats = omega (arith, n, m, c.requires.seats.1) in
+    (c.requires.seats.0, le)
 
 pub join_all-met-requires-clause-inlets : goal.join_all-met-requires-clause-inlets
 join_all-met-requires-clause-inlets g c κs within =
     let n = as_many _ _ _ _ c.start_all-refused.ensures.whose in
-    let m : length c.args.seats.items ≡ length c.args.inlets.items = mapped_as_many g.I.Inlet.tale _ _ c.requires.ready.count in
-    let le : vec_len c.start_all-refused.new.begun ≤ vec_capacity c.args.back = omega (arith, n, m, c.requires.back.1) in
-    (c.requires.back.0, le)
+    let m : length c.args.hands.seats.items ≡ length c.args.hands.inlets.items = mapped_as_many g.I.Inlet.tale _ _ c.requires.ready.count in
+    let le : vec_len c.start_all-refused.new.begun ≤ vec_capacity c.args.room.inlets = omega (arith, n, m, c.requires.inlets.1) in
+    (c.requires.inlets.0, le)
 
 pub join_all-met-requires-clause-few : goal.join_all-met-requires-clause-few
 join_all-met-requires-clause-few g c κs within =

@@ -11,10 +11,10 @@ returns-clause-ran g c =
       items = refl;
       dropped = new_dropped c.args.params.now _ _ r.fresh_inlets;
       timer_seat = record { whose = r.whose; few = (let n = ap length r.empty in omega (arith, n)); params = r.params; begun = refl };
-      sent = none_sent c.args.params.now.links c.args.timer.told (g.O.Outlet.sent c.args.outlet) r.unsent;
+      sent = none_sent c.args.params.now.links c.args.hands.timer.told (g.O.Outlet.sent c.args.hands.outlet) r.unsent;
       shown = λ shown e. absurd (cc);
       door = refl;
-      answers = new_answers c.args.params.now.node (g.D.Inlet.tale c.args.door) (g.D.Inlet.replies c.args.door) r.fresh_door r.silent;
+      answers = new_answers c.args.params.now.node (g.D.Inlet.tale c.args.hands.door) (g.D.Inlet.replies c.args.hands.door) r.fresh_door r.silent;
       unstarted = λ none. record { inlets_same = refl; unsent = r.unsent; door_same = refl; unreplied = r.silent };
     }
 
@@ -29,6 +29,6 @@ returns-clause-reasons g c = record {
   inlet_fault = λ h. absurd (cc);
   outlet_fault = λ h. absurd (cc);
   door_fault = λ h. absurd (cc);
-  owing = new_owes (g.D.Inlet.tale c.args.door) (g.D.Inlet.replies c.args.door) _ c.requires.ready.fresh_door c.requires.ready.silent;
+  owing = new_owes (g.D.Inlet.tale c.args.hands.door) (g.D.Inlet.replies c.args.hands.door) _ c.requires.ready.fresh_door c.requires.ready.silent;
   clock_fault = λ h. absurd (cc);
 }
