@@ -1,6 +1,15 @@
-use gs_board::Seat;
+use gs_board::{Seat, Shared};
 use gs_clock::Clock;
 use gs_net::{Door, Inlet, Outlet};
+use gs_units::NodeParams;
+
+/// What all that runs goes by: the runtime, the board and what the node was told.
+#[derive(Drop)]
+pub(crate) struct Places<'e, R, C: Clock> {
+    pub rt: &'e R,
+    pub board: &'e Shared<C>,
+    pub params: &'e NodeParams,
+}
 
 /// What the threads of a node are handed.
 #[derive(Drop)]

@@ -7,7 +7,7 @@ ghost use Rattle.gs_callers.specs.Timed.{IsCutOff, IsInStep};
 ghost use Rattle.gs_node.specs.inside.Begun.{AreReady, of_task};
 ghost use Rattle.gs_node.specs.inside.Runs.{HasReasons, HasRun, begun_by, failed_in, leavings_of, reasons_of};
 
-use crate::hands::{Course, Hands, Room};
+use crate::hands::{Course, Hands, Places, Room};
 use crate::joins::join_all;
 use crate::starts::{Begun, start_all, start_one};
 use gs_board::{Seat, Shared};
@@ -58,10 +58,8 @@ pub(crate) fn beside<
     W: Crew,
     G: Gate,
 >(
-    rt: &R,
+    places: Places<'_, R, C>,
     alloc: Global,
-    board: &Shared<C>,
-    params: &NodeParams,
     first: Snap,
     hands: Hands<C, V, I, O, D>,
     room: Room<C, I>,
@@ -69,33 +67,33 @@ pub(crate) fn beside<
     gate: &G,
     course: Course,
 ) -> Ran<C, V, I, O, D>
-    requires ready { AreReady I.Inlet O.Outlet D.Inlet params.now hands }
+    requires ready { AreReady I.Inlet O.Outlet D.Inlet places.params.now hands }
     requires seats { (room.seats.items ≡ []) × (vec_len hands.inlets ≤ vec_capacity room.seats) }
     requires inlets { (room.inlets.items ≡ []) × (vec_len hands.inlets ≤ vec_capacity room.inlets) }
     requires first { first ≡ first_snap hands.timer.begun }
-    ensures ran { HasRun (begun_by I.Inlet D.Inlet params.now hands course.ticks)
+    ensures ran { HasRun (begun_by I.Inlet D.Inlet places.entry.params.now hands course.ticks)
         (map (λ s. s.whose) hands.seats.items) (leavings_of I.Inlet O.Outlet D.Inlet result) }
-    ensures reasons { HasReasons (begun_by I.Inlet D.Inlet params.now hands course.ticks)
+    ensures reasons { HasReasons (begun_by I.Inlet D.Inlet places.entry.params.now hands course.ticks)
         (leavings_of I.Inlet O.Outlet D.Inlet result) (failed_in V.Clock I.Inlet O.Outlet D.Inlet result) (reasons_of result) }
     ensures refused { result.refused ≡ true → Rose (W.faults crew.old) (W.faults crew.new) }
 {
     let (ran, _crew) = thread::scope(
         thread::scope_env(),
-        rt,
+        places.rt,
         move |scope| -> (Ran<C, V, I, O, D>, &mut W)
-            requires ready { AreReady I.Inlet O.Outlet D.Inlet params.now hands }
+            requires ready { AreReady I.Inlet O.Outlet D.Inlet places.params.now hands }
             requires seats { (room.seats.items ≡ []) × (vec_len hands.inlets ≤ vec_capacity room.seats) }
             requires inlets { (room.inlets.items ≡ []) × (vec_len hands.inlets ≤ vec_capacity room.inlets) }
             requires first { first ≡ first_snap hands.timer.begun }
-            ensures ran { HasRun (begun_by I.Inlet D.Inlet params.entry.now hands course.ticks)
+            ensures ran { HasRun (begun_by I.Inlet D.Inlet places.entry.params.now hands course.ticks)
                 (map (λ s. s.whose) hands.seats.items) (leavings_of I.Inlet O.Outlet D.Inlet result.0) }
-            ensures reasons { HasReasons (begun_by I.Inlet D.Inlet params.entry.now hands course.ticks)
+            ensures reasons { HasReasons (begun_by I.Inlet D.Inlet places.entry.params.now hands course.ticks)
                 (leavings_of I.Inlet O.Outlet D.Inlet result.0) (failed_in V.Clock I.Inlet O.Outlet D.Inlet result.0) (reasons_of result.0) }
             ensures refused { result.0.refused ≡ true → Rose (W.faults crew.entry.now) (W.faults result.1.now) }
             ensures same { result.1.ghost_name ≡ crew.entry.ghost_name }
         {
             let ran = work(
-                rt, alloc, scope, board, params, first, hands, room, &mut *crew, gate, course,
+                places, alloc, scope, first, hands, room, &mut *crew, gate, course,
             );
             (ran, crew)
         },
@@ -116,11 +114,9 @@ fn work<
     W: Crew,
     G: Gate,
 >(
-    rt: &'e R,
+    places: Places<'e, R, C>,
     alloc: Global,
     scope: &Scope<'s, &'e ()>,
-    board: &'e Shared<C>,
-    params: &'e NodeParams,
     first: Snap,
     hands: Hands<C, V, I, O, D>,
     room: Room<C, I>,
@@ -128,25 +124,25 @@ fn work<
     gate: &G,
     course: Course,
 ) -> Ran<C, V, I, O, D>
-    requires ready { AreReady I.Inlet O.Outlet D.Inlet params.now hands }
+    requires ready { AreReady I.Inlet O.Outlet D.Inlet places.params.now hands }
     requires seats { (room.seats.items ≡ []) × (vec_len hands.inlets ≤ vec_capacity room.seats) }
     requires inlets { (room.inlets.items ≡ []) × (vec_len hands.inlets ≤ vec_capacity room.inlets) }
     requires first { first ≡ first_snap hands.timer.begun }
-    ensures ran { HasRun (begun_by I.Inlet D.Inlet params.now hands course.ticks)
+    ensures ran { HasRun (begun_by I.Inlet D.Inlet places.entry.params.now hands course.ticks)
         (map (λ s. s.whose) hands.seats.items) (leavings_of I.Inlet O.Outlet D.Inlet result) }
-    ensures reasons { HasReasons (begun_by I.Inlet D.Inlet params.now hands course.ticks)
+    ensures reasons { HasReasons (begun_by I.Inlet D.Inlet places.entry.params.now hands course.ticks)
         (leavings_of I.Inlet O.Outlet D.Inlet result) (failed_in V.Clock I.Inlet O.Outlet D.Inlet result) (reasons_of result) }
     ensures refused { result.refused ≡ true → Rose (W.faults crew.old) (W.faults crew.new) }
 {
     let mut begun = Vec::new(alloc);
     let Ok(()) = begun.reserve(hands.inlets.len()) else {
-        return untouched(params, hands, course);
+        return untouched(places.params, hands, course);
     };
-    let Ok((publisher, reader)) = Publisher::new(alloc, params.rate, first) else {
-        return untouched(params, hands, course);
+    let Ok((publisher, reader)) = Publisher::new(alloc, places.params.rate, first) else {
+        return untouched(places.params, hands, course);
     };
     run_all(
-        rt, scope, board, params, publisher, reader, begun, hands, room, crew, gate, course,
+        places, scope, publisher, reader, begun, hands, room, crew, gate, course,
     )
 }
 
@@ -204,10 +200,8 @@ fn run_all<
     W: Crew,
     G: Gate,
 >(
-    rt: &'e R,
+    places: Places<'e, R, C>,
     scope: &Scope<'s, &'e ()>,
-    board: &'e Shared<C>,
-    params: &'e NodeParams,
     publisher: Publisher,
     reader: Reader,
     begun: Vec<Begun<'s, Listening<'e, R, C, I>>>,
@@ -217,17 +211,18 @@ fn run_all<
     gate: &G,
     course: Course,
 ) -> Ran<C, V, I, O, D>
-    requires ready { AreReady I.Inlet O.Outlet D.Inlet params.now hands }
+    requires ready { AreReady I.Inlet O.Outlet D.Inlet places.params.now hands }
     requires seats { (room.seats.items ≡ []) × (vec_len hands.inlets ≤ vec_capacity room.seats) }
     requires inlets { (room.inlets.items ≡ []) × (vec_len hands.inlets ≤ vec_capacity room.inlets) }
     requires begun { (begun.items ≡ []) × (vec_len hands.inlets ≤ vec_capacity begun) }
     requires first { publisher ≡ first_snap hands.timer.begun ∷ [] }
-    ensures ran { HasRun (begun_by I.Inlet D.Inlet params.now hands course.ticks)
+    ensures ran { HasRun (begun_by I.Inlet D.Inlet places.entry.params.now hands course.ticks)
         (map (λ s. s.whose) hands.seats.items) (leavings_of I.Inlet O.Outlet D.Inlet result) }
-    ensures reasons { HasReasons (begun_by I.Inlet D.Inlet params.now hands course.ticks)
+    ensures reasons { HasReasons (begun_by I.Inlet D.Inlet places.entry.params.now hands course.ticks)
         (leavings_of I.Inlet O.Outlet D.Inlet result) (failed_in V.Clock I.Inlet O.Outlet D.Inlet result) (reasons_of result) }
     ensures refused { result.refused ≡ true → Rose (W.faults crew.old) (W.faults crew.new) }
 {
+    let Places { rt, board, params } = places;
     let Hands {
         timer,
         seats,

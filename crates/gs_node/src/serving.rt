@@ -12,7 +12,7 @@ ghost use Rattle.gs_node.specs.Serving.{DoneEnd, EveryEnd};
 
 use crate::ends::End;
 use crate::finishing::finish;
-use crate::hands::{Course, Hands, Room};
+use crate::hands::{Course, Hands, Places, Room};
 use crate::running::beside;
 use crate::seating::{Ready, prepare};
 use gs_board::{Board, Seat};
@@ -161,9 +161,12 @@ fn run<
         inlets: back,
     };
     let course = Course { ticks, pace };
-    let ran = beside(
-        rt, alloc, &lock, &params, first, hands, room, crew, gate, course,
-    );
+    let places = Places {
+        rt,
+        board: &lock,
+        params: &params,
+    };
+    let ran = beside(places, alloc, first, hands, room, crew, gate, course);
     finish(lock.into_inner(), ran, all)
 }
 
