@@ -224,23 +224,18 @@ fn run_all<
 {
     let Places { rt, board, params } = places;
     let Hands {
-        timer,
+        mut timer,
         seats,
         inlets,
-        outlet,
+        mut outlet,
         door,
         view_clock,
     } = hands;
     let Room {
-        seats: others,
-        inlets: back,
+        seats: mut others,
+        inlets: mut back,
     } = room;
-    let mut timer = timer;
-    let mut outlet = outlet;
-    let mut others = others;
-    let mut back = back;
-    let mut begun = begun;
-    let mut publisher = publisher;
+    let (mut begun, mut publisher) = (begun, publisher);
     let mut refused = start_all(
         rt, scope, board, params, seats, inlets, &mut begun, &mut *crew,
     );
