@@ -59,11 +59,13 @@ impl Mail {
     pub(crate) fn cmp_key(&self, other: &Mail) -> Ordering
         ensures { result ≡ key_cmp (key_of self.now) (key_of other.now) }
     {
-        let a = self.sent.beacon();
-        let b = other.sent.beacon();
-        self.due
-            .cmp(&other.due)
-            .then(a.sender.cmp(&b.sender))
-            .then(a.seq.cmp(&b.seq))
+        match self.due.cmp(&other.due) {
+            Ordering::Equal => {
+                let a = self.sent.beacon();
+                let b = other.sent.beacon();
+                a.sender.cmp(&b.sender).then(a.seq.cmp(&b.seq))
+            }
+            order => order,
+        }
     }
 }

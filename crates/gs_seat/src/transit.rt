@@ -40,6 +40,7 @@ impl Transit {
     }
 
     /// The place of one that is not there. Most belong near the end.
+    #[inline(never)]
     #[tactic(auto, using(crate::proofs::Put::gap_found))]
     fn gap(&self, mail: &Mail) -> usize
         requires order { AreInOrder (keys self.now) }
