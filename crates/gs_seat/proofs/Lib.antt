@@ -7,6 +7,7 @@ pub mod Faults
 pub mod Turning
 pub mod Seating
 pub mod Idle
+pub mod Known
 pub mod Windows
 pub mod Starting
 pub mod Reading

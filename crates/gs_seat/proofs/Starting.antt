@@ -1,5 +1,5 @@
 -- A seat at the start.
-use Rattle.std.proofs.Common.{◌≡◌, ℕ, ◌+◌, ◌-◌, ◌*◌, ◌<◌, ◌≤◌, arith, ap, sym, ◌∙◌, subst, List, [], map, slice_index, Some}
+use Rattle.std.proofs.Common.{◌≡◌, ℕ, ◌+◌, ◌-◌, ◌*◌, ◌<◌, ◌≤◌, arith, ap, sym, ◌∙◌, subst, List, [], map, slice_index, Some, length, replicate}
 use Rattle.std.proofs.lemmas.List.FromFn.{get_or-map-range_with_len}
 use Rattle.std.proofs.lemmas.Option.{none-some}
 use Rattle.std.specs.Vec.{vec_capacity}
@@ -18,6 +18,8 @@ use Rattle.gs_seat.specs.Letters.{Letter, keys}
 use Rattle.gs_seat.specs.Seats.{IsSeatIn}
 use Rattle.gs_seat.specs.Sleepers.{IsAsleep, part_of, reading_at}
 use Rattle.gs_seat.specs.Worlds.{world_of, part_at}
+use Rattle.gs_seat.specs.inside.Ways.{unasked}
+use Rattle.gs_seat.proofs.Known.{ways_unasked}
 use Rattle.gs_seat.specs.declared.seat.Seat.{Seat}
 use Rattle.gs_seat.specs.declared.sleeper.Sleeper.{Sleeper}
 
@@ -69,11 +71,12 @@ none_held net c v = record {
       none-some k.seq (subst (λ (n : ℕ). sent_at net c k.from n ≡ Some k.seq) start it.is.sent);
 }
 
-pub starts_in : (net : Net) (c : Course) (v : ℕ) (s : Seat) → IsAsleep net c v 0 s.node → s.waiting ≡ [] → s.sent.items ≡ [] → 64 ≤ vec_capacity s.sent → IsSeatIn net c v 0 0 s
-starts_in net c v s node waiting sent room = record {
+pub starts_in : (net : Net) (c : Course) (v : ℕ) (s : Seat) → IsAsleep net c v 0 s.node → s.waiting ≡ [] → s.ways ≡ replicate (length (neighbours net v)) unasked → s.sent.items ≡ [] → 64 ≤ vec_capacity s.sent → IsSeatIn net c v 0 0 s
+starts_in net c v s node waiting ways sent room = record {
   node = node;
   held = subst (λ (bs : List Letter). IsHeld net c v (λ x. 0) 0 (keys bs)) (sym waiting) (none_held net c v);
   carried = subst (AreCarried net (world_of net c 0) v) (sym waiting) tt;
+  ways = ways_unasked net c v (λ x. 0) s.ways ways;
   sent = subst (AreSentIn net c v 0 0) (sym sent) (λ q after before. absurd (omega (arith, after, before)));
   within = λ x. (omega arith, omega arith);
   room = room;

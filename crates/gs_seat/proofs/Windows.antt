@@ -17,12 +17,14 @@ use Rattle.gs_calendar.specs.inside.Transits.{Has}
 use Rattle.gs_calendar.proofs.Agree.{HasMail}
 use Rattle.gs_calendar.proofs.Fitting.{IsCourse}
 use Rattle.gs_calendar.proofs.OnTheWay.{is_neighbour, neighbour_is}
+use Rattle.gs_script.specs.declared.run.WayRun.{WayRun}
 use Rattle.gs_seat.specs.Alone.{Carries, AreCarried}
 use Rattle.gs_seat.specs.Held.{IsHeld, IsNext, IsWindow, AreSentIn, SendsNone, handed}
 use Rattle.gs_seat.specs.Letters.{Letter, keys, letters_after, put_letter, first_due}
 use Rattle.gs_seat.specs.Letters as letters
 use Rattle.gs_seat.specs.Seats.{IsSeatAt, IsSeatIn, wake_of}
 use Rattle.gs_seat.specs.Sleepers.{IsAsleep}
+use Rattle.gs_seat.specs.inside.Ways.{HoldsWays}
 use Rattle.gs_seat.specs.Worlds.{world_of, part_at, part_begun, WasSent}
 use Rattle.gs_seat.specs.declared.seat.Seat.{Seat}
 use Rattle.gs_seat.proofs.Carried.{all_carried_next, sent_stays}
@@ -31,6 +33,7 @@ use Rattle.gs_seat.proofs.Held.{handed_other, handed_own, held_as, held_idle, he
 use Rattle.gs_seat.proofs.Idle.{first_by, idle_is, no_tick, none_due}
 use Rattle.gs_seat.proofs.Put.{each_put, keys_put}
 use Rattle.gs_seat.proofs.Seating.{asleep_on}
+use Rattle.gs_seat.proofs.Known.{ways_as, ways_later}
 use Rattle.gs_seat.proofs.Turning.{IsReady, longer, next_world, window_late, world_agrees}
 
 -- ---- what was sent in a window
@@ -109,8 +112,8 @@ each_after P t (b ∷ bs) all = pick (nat_le b.due t) (each_after P t bs all.1) 
 
 -- a seat whose node had its turn
 pub seat_turned : (net : Net) (c : Course) (v m t : ℕ) (by : ℕ → ℕ) (old new : Seat) → IsSeatAt net c v by m t old → IsAsleep net c v (suc t) new.node
-    → new.waiting ≡ letters_after (suc t) old.waiting → AreSentIn net c v m (suc t) new.sent.items → 64 ≤ vec_capacity new.sent → IsSeatAt net c v by m (suc t) new
-seat_turned net c v m t by old new is node left sent room =
+    → new.waiting ≡ letters_after (suc t) old.waiting → new.ways ≡ old.ways → AreSentIn net c v m (suc t) new.sent.items → 64 ≤ vec_capacity new.sent → IsSeatAt net c v by m (suc t) new
+seat_turned net c v m t by old new is node left ways sent room =
     let held : IsHeld net c v by (suc t) (keys (letters_after (suc t) old.waiting)) =
     subst (λ (ks : List Key). IsHeld net c v by (suc t) ks) (sym (keys_after (suc t) old.waiting)) (held_taken net c v t by (keys old.waiting) is.held) in
     let carried = each_after _ (suc t) old.waiting (carried_next net c v t old.waiting is.carried) in
@@ -118,6 +121,7 @@ seat_turned net c v m t by old new is node left sent room =
       node = node;
       held = subst (λ (bs : List Letter). IsHeld net c v by (suc t) (keys bs)) (sym left) held;
       carried = subst (λ (bs : List Letter). AreCarried net (world_of net c (suc t)) v bs) (sym left) carried;
+      ways = subst (HoldsWays net c v by) (sym ways) is.ways;
       sent = sent;
       within = within_next by m t is.within;
       room = room;
@@ -142,6 +146,7 @@ sleeps_on net c v m t s numbers course hv window less is =
       node = asleep_on net c v t s.node is.node before.2 before.1 idle;
       held = held_idle net c v t (λ x. m) (keys s.waiting) (none_due (suc t) s.node.inc.until s.waiting before.3) is.held;
       carried = carried_next net c v t s.waiting is.carried;
+      ways = is.ways;
       sent = sent_none net c v m t s.sent.items hv (sends_none_idle net c v t s hv is.node before.0) is.sent;
       within = within_next (λ x. m) m t is.within;
       room = is.room;
@@ -176,22 +181,23 @@ letter_is_new net c x v m t place by s seat hx next is has =
     (subst (λ (k : Key). Has k (keys seat.waiting)) (key_is net c x v t place s hx next.was) has)
 
 -- it is lost
-pub seat_lost : (net : Net) (c : Course) (x v m t : ℕ) (by : ℕ → ℕ) (s : Sent) (seat : Seat) → IsNext net c x (by x) t s → c.lost x v s.quantum ≡ true → IsSeatAt net c v by m t seat
-    → IsSeatAt net c v (handed by x s.quantum) m t seat
-seat_lost net c x v m t by s seat next lost is = record {
+pub seat_lost : (net : Net) (c : Course) (x v m t : ℕ) (by : ℕ → ℕ) (s : Sent) (seat : Seat) (ws : List WayRun) → IsNext net c x (by x) t s → c.lost x v s.quantum ≡ true → HoldsWays net c v (handed by x s.quantum) ws
+    → IsSeatAt net c v by m t seat → IsSeatAt net c v (handed by x s.quantum) m t (record seat { ways = ws })
+seat_lost net c x v m t by s seat ws next lost ways is = record {
   node = is.node;
   held = held_lost net c v t x s.quantum s.beacon.seq by (keys seat.waiting) (next.after, next.none, next.was.sent) lost is.held;
   carried = is.carried;
+  ways = ways;
   sent = is.sent;
   within = handed_within by x s.quantum m t is.within (let after = next.after in let low = (is.within x).0 in omega (arith, after, low)) next.was.by;
   room = is.room;
 }
 
 -- or it is put on its way
-pub seat_put : (net : Net) (c : Course) (x v m t place : ℕ) (by : ℕ → ℕ) (s : Sent) (old new : Seat) → AreNumbers net → IsCourse net c → x < net.nodes → Has v (neighbours net x) → IsWindow net m t
-    → IsNext net c x (by x) t s → c.lost x v s.quantum ≡ false → place_of net v x ≡ Some place → new ≡ record old { waiting = put_letter (letter_of c x v place s) old.waiting }
+pub seat_put : (net : Net) (c : Course) (x v m t place : ℕ) (by : ℕ → ℕ) (s : Sent) (old new : Seat) (ws : List WayRun) → AreNumbers net → IsCourse net c → x < net.nodes → Has v (neighbours net x) → IsWindow net m t
+    → IsNext net c x (by x) t s → c.lost x v s.quantum ≡ false → place_of net v x ≡ Some place → new ≡ record old { waiting = put_letter (letter_of c x v place s) old.waiting; ways = ws } → HoldsWays net c v (handed by x s.quantum) ws
     → IsSeatAt net c v by m t old → IsSeatAt net c v (handed by x s.quantum) m t new
-seat_put net c x v m t place by s old new numbers course hx near window next kept at put is =
+seat_put net c x v m t place by s old new ws numbers course hx near window next kept at put ways is =
     let b : Letter = letter_of c x v place s in
     let adjacent = (neighbour_is net x v near).1 in
     let among : Has x (neighbours net v) = is_neighbour net v x hx (numbers.both_ways x v adjacent) in
@@ -210,6 +216,7 @@ seat_put net c x v m t place by s old new numbers course hx near window next kep
       node = is.node;
       held = subst (λ (xs : List Key). IsHeld net c v (handed by x s.quantum) t xs) (sym same) held;
       carried = each_put _ b old.waiting carries is.carried;
+      ways = ways;
       sent = is.sent;
       within = handed_within by x s.quantum m t is.within (omega (arith, after)) next.was.by;
       room = is.room;
@@ -221,10 +228,17 @@ all_handed net c x v m t by s none is = record {
   node = is.node;
   held = held_none net c v t x t by (keys s.waiting) (is.within x).1 none is.held;
   carried = is.carried;
+  ways = ways_later net c v by (handed by x t) s.ways (λ y near. later y) is.ways;
   sent = is.sent;
   within = handed_within by x t m t is.within (seat_begun net c v m t by s is) (omega arith);
   room = is.room;
 }
+  where
+    later : (y : ℕ) → by y ≤ handed by x t y
+    later y = elim (cases_eq y x) [
+      | inl own ↦ (let e = handed_own by x t y own in let high = (is.within y).1 in omega (arith, e, high))
+      | inr other ↦ (let e = handed_other by x t y other in omega (arith, e))
+    ]
 
 -- only the neighbours count
 pub seat_as : (net : Net) (c : Course) (v m t : ℕ) (by other : ℕ → ℕ) (s : Seat) → ((x : ℕ) → Has x (neighbours net v) → by x ≡ other x) → ((x : ℕ) → (m ≤ other x) × (other x ≤ t))
@@ -233,6 +247,7 @@ seat_as net c v m t by other s same within is = record {
   node = is.node;
   held = held_as net c v t by other (keys s.waiting) same is.held;
   carried = is.carried;
+  ways = ways_as net c v by other s.ways same is.ways;
   sent = is.sent;
   within = within;
   room = is.room;

@@ -9,6 +9,7 @@ use Rattle.gs_seat.specs.Held.{IsHeld, AreSentIn}
 use Rattle.gs_seat.specs.Letters.{keys, first_due}
 use Rattle.gs_seat.specs.Sleepers.{IsAsleep}
 use Rattle.gs_seat.specs.Worlds.{world_of}
+use Rattle.gs_seat.specs.inside.Ways.{HoldsWays}
 use Rattle.gs_seat.specs.declared.seat.Seat.{Seat}
 
 -- This seat stands for node v at the end of quantum t, in a window that began at the end of quantum m. In transit to it is
@@ -17,6 +18,7 @@ pub record IsSeatAt (net : Net) (c : Course) (v : ℕ) (by : ℕ → ℕ) (m t :
   pub node : IsAsleep net c v t s.node
   pub held : IsHeld net c v by t (keys s.waiting)
   pub carried : AreCarried net (world_of net c t) v s.waiting
+  pub ways : HoldsWays net c v by s.ways
   pub sent : AreSentIn net c v m t s.sent.items
   pub within : (x : ℕ) → (m ≤ by x) × (by x ≤ t)
   pub room : 64 ≤ vec_capacity s.sent

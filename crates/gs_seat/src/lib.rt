@@ -14,3 +14,4 @@ mod sleeper;
 #[cfg(test)]
 mod tests;
 mod transit;
+mod ways;

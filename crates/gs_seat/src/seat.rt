@@ -19,6 +19,7 @@ use crate::mail::Mail;
 use crate::sent::SentBeacon;
 use crate::sleeper::Sleeper;
 use crate::transit::Transit;
+use crate::ways::Ways;
 use gs_plan::Plan;
 use gs_script::Script;
 use std::alloc::{AllocError, Global};
@@ -32,6 +33,8 @@ pub const MAX_WINDOW: usize = 64;
 pub struct Seat {
     node: Sleeper,
     waiting: Transit,
+    /// What is known of the ways that its neighbours send over.
+    ways: Ways,
     /// There is room for all that is sent in a window.
     sent: Vec<SentBeacon>,
 }
@@ -49,6 +52,7 @@ impl Seat {
         Ok(Seat {
             node: Sleeper::start(alloc, plan, script, v)?,
             waiting: Transit::new(alloc),
+            ways: Ways::unasked(alloc, plan.topo().neighbours(v).len())?,
             sent: Vec::with_capacity(alloc, MAX_WINDOW)?,
         })
     }
@@ -192,14 +196,14 @@ impl Seat {
             → IsSeatAt (net_of plan.now) (course_of script.now) to by m t self.old
             → OnOk result (IsSeatAt (net_of plan.now) (course_of script.now) to (handed by from sent.now.quantum) m t self.new) }
     {
-        let quantum = sent.quantum();
-        let way = script.way_run(from, to, quantum);
-        if way.is_lost {
-            return Ok(());
-        }
         let Some(place) = place(plan.topo().neighbours(to), from) else {
             unreachable!()
         };
+        let quantum = sent.quantum();
+        let way = self.ways.ask(script, from, to, place, quantum);
+        if way.is_lost {
+            return Ok(());
+        }
         let due = quantum + way.delay;
         self.waiting.put(Mail::new(due, place as u32, *sent))?;
         Ok(())
