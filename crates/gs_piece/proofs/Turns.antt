@@ -175,6 +175,7 @@ seat_rests net c v m t s none is = record {
   sent = subst (AreSentIn net c v t t) (sym (sent_empty net c v m t s.sent.items none is.sent)) (λ q after before. absurd (omega (arith, after, before)));
   within = λ x. (omega arith, omega arith);
   room = is.room;
+  ways = is.ways;
 }
 
 pub handed_to_own : (by : ℕ → ℕ → ℕ) (to from q v : ℕ) → v ≡ to → handed_to by to from q v ≡ handed (by v) from q
