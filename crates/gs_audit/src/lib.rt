@@ -10,6 +10,4 @@ mod auditing;
 mod audits;
 mod replaying;
 mod replays;
-#[cfg(test)]
-mod tests;
 mod verdict;

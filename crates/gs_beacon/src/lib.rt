@@ -11,5 +11,3 @@ mod beacon;
 mod laws;
 mod layout;
 mod number;
-#[cfg(test)]
-mod tests;

@@ -13,8 +13,6 @@ mod compare;
 mod faults;
 mod journaled;
 mod seats;
-#[cfg(test)]
-mod tests;
 mod told;
 
 /// The greatest number of events that a journal may have.

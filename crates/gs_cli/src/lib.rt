@@ -10,6 +10,4 @@ pub use word::number_within;
 mod reply;
 mod status;
 mod stop;
-#[cfg(test)]
-mod tests;
 mod word;

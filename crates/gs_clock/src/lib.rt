@@ -10,5 +10,3 @@ pub use monotonic::MonoClock;
 mod clocks;
 mod in_memory;
 mod monotonic;
-#[cfg(test)]
-mod tests;

@@ -14,5 +14,3 @@ mod laws;
 mod node;
 mod quiet;
 mod reply;
-#[cfg(test)]
-mod tests;

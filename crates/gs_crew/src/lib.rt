@@ -11,6 +11,4 @@ pub use thread_crew::ThreadCrew;
 mod crews;
 mod short_crew;
 mod tasks;
-#[cfg(test)]
-mod tests;
 mod thread_crew;

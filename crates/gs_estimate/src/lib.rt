@@ -6,5 +6,3 @@ pub use slots::{Entry, Heard, Slots};
 
 mod laws;
 mod slots;
-#[cfg(test)]
-mod tests;

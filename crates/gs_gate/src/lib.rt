@@ -5,5 +5,3 @@
 pub use gates::{Gate, PlainGate};
 
 mod gates;
-#[cfg(test)]
-mod tests;

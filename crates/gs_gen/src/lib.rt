@@ -10,5 +10,3 @@ mod draws;
 mod plan;
 mod records;
 mod script;
-#[cfg(test)]
-mod tests;

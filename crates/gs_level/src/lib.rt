@@ -18,5 +18,3 @@ mod potentials;
 mod report;
 mod report_text;
 mod tally;
-#[cfg(test)]
-mod tests;

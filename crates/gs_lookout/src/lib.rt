@@ -6,5 +6,3 @@ pub use lookout::Lookout;
 
 mod apart;
 mod lookout;
-#[cfg(test)]
-mod tests;

@@ -6,5 +6,3 @@ pub use maximum::Max;
 
 mod laws;
 mod maximum;
-#[cfg(test)]
-mod tests;

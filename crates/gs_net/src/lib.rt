@@ -23,5 +23,3 @@ mod mem_ports;
 mod outlets;
 mod returns;
 mod shelf;
-#[cfg(test)]
-mod tests;

@@ -12,6 +12,4 @@ pub use timed::Timed;
 mod laws;
 mod ordering;
 mod pending;
-#[cfg(test)]
-mod tests;
 mod timed;

@@ -16,5 +16,3 @@ mod levels;
 mod numbers;
 mod plan;
 mod shape;
-#[cfg(test)]
-mod tests;

@@ -14,8 +14,6 @@ mod laws;
 mod lists;
 mod read;
 mod shape;
-#[cfg(test)]
-mod tests;
 mod text;
 mod values;
 mod write;

@@ -5,5 +5,3 @@
 pub use record::{RecordStop, record_script};
 
 mod record;
-#[cfg(test)]
-mod tests;

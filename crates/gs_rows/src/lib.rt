@@ -11,5 +11,3 @@ mod advancing;
 mod laws;
 mod rows;
 mod taking;
-#[cfg(test)]
-mod tests;

@@ -13,5 +13,3 @@ pub use refused::Refused;
 mod laws;
 mod plans;
 mod refused;
-#[cfg(test)]
-mod tests;

@@ -24,5 +24,3 @@ mod run;
 mod runs;
 mod script;
 mod settings;
-#[cfg(test)]
-mod tests;

@@ -7,6 +7,4 @@ pub use timing::times;
 
 mod laws;
 mod settling;
-#[cfg(test)]
-mod tests;
 mod timing;

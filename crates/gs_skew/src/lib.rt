@@ -9,5 +9,3 @@ pub use skew::{first_edge, global_skew, neighbour_skew, skew_between};
 mod laws;
 mod range;
 mod skew;
-#[cfg(test)]
-mod tests;

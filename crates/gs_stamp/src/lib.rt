@@ -14,5 +14,3 @@ mod on_file;
 mod slots;
 mod stamping;
 mod stores;
-#[cfg(test)]
-mod tests;

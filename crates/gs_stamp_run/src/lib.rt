@@ -6,6 +6,4 @@ pub use run::{StampEnd, run_stamp};
 mod issuing;
 mod lines;
 mod run;
-#[cfg(test)]
-mod tests;
 mod words;

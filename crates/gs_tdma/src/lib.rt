@@ -13,5 +13,3 @@ mod laws;
 mod near;
 mod sending;
 mod slot_plan;
-#[cfg(test)]
-mod tests;

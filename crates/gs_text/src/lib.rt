@@ -5,6 +5,4 @@ pub use number::read_u64;
 pub use writing::Lines;
 
 mod number;
-#[cfg(test)]
-mod tests;
 mod writing;

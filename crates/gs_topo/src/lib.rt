@@ -16,7 +16,5 @@ mod levels;
 mod lists;
 mod search;
 mod steps;
-#[cfg(test)]
-mod tests;
 mod topology;
 mod weights;

@@ -22,6 +22,4 @@ mod numbers;
 mod reading;
 mod scan;
 mod start;
-#[cfg(test)]
-mod tests;
 mod world;

@@ -8,5 +8,3 @@ pub use rate::{END, Mode, Rate, RateFault};
 mod laws;
 mod params;
 mod rate;
-#[cfg(test)]
-mod tests;

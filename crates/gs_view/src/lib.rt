@@ -15,5 +15,3 @@ mod passes;
 mod rules;
 mod shown;
 mod snaps;
-#[cfg(test)]
-mod tests;

@@ -17,6 +17,4 @@ mod laws;
 mod member;
 mod quantum;
 mod sent;
-#[cfg(test)]
-mod tests;
 mod world;
