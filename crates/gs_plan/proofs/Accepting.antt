@@ -4,25 +4,19 @@ use Rattle.std.specs.List.{find, list_any}
 use Rattle.std.specs.Option.{option_map_or}
 use Rattle.std.proofs.lemmas.Bool.{leb-false, ltb-false}
 use Rattle.std.proofs.lemmas.List.Elements.{All-cons, All-head, All-map, All-nil, All-tail}
+use Rattle.gs_units.proofs.FirstFault.{first_fails, none_of}
 use Rattle.gs_topo.specs.Graph.{Graph, adjacent, joins}
-use Rattle.gs_topo.proofs.Sound.{none_of}
 use Rattle.gs_planfile.specs.declared.text.EdgeSpan.{EdgeSpan}
 use Rattle.gs_planfile.specs.declared.text.PlanText.{PlanText}
 use Rattle.gs_planfile.specs.declared.text.Version.{Version}
 use Rattle.gs_plan.specs.declared.edge.EdgeGiven.{EdgeGiven}
-use Rattle.gs_plan.specs.declared.fault.PlanFault.{PlanFault}
 use Rattle.gs_plan.specs.declared.fault.PlanFault.TheVariants as fault
 use Rattle.gs_plan.specs.Accepted.{IsAccepted, IsFine}
 use Rattle.gs_plan.specs.Bounds.{global_in, greatest_kappa_in}
 use Rattle.gs_plan.specs.Edges.{edge_given, own_given, span_between, span_given}
-use Rattle.gs_plan.specs.Faults.{are_bad_delays, are_bad_ports, are_low_kappas, beacon_bound, fault_if, fault_over, is_bad_span, is_low_kappa, is_one, is_outside, is_wide, span_fault}
+use Rattle.gs_plan.specs.Faults.{are_bad_delays, are_bad_ports, are_low_kappas, beacon_bound, fault_over, is_bad_span, is_low_kappa, is_one, is_outside, is_wide, span_fault}
 use Rattle.gs_plan.specs.Numbers.{least_kappa_in, q_in, r_in}
 use Rattle.gs_plan.proofs.Keeping.{each_below}
-
--- a test that gives no fault fails
-pub passes : (test : Bool) (f : PlanFault) → fault_if test f ≡ None → test ≡ false
-passes true f h = cc
-passes false f h = refl
 
 -- neither of two tests holds where not one of them does
 pub neither : (a b : Bool) → a || b ≡ false → (a ≡ false) × (b ≡ false)
@@ -92,23 +86,23 @@ edges_fine t es fine = All-map (IsFine t) (edge_given t) es (λ k d h. fine (sli
 -- a text without a fault over a graph is accepted
 pub accepted_of : (t : PlanText) (g : Graph) → fault_over t g ≡ None → IsAccepted t g
 accepted_of t g none =
-    let tick = none_of (fault_if (is_outside 1 65536 t.tick) fault.Tick) _ none in
-    let delay = none_of (fault_if (are_bad_delays t.delay_min t.delay_max) fault.Delay) _ tick.1 in
+    let tick = first_fails (is_outside 1 65536 t.tick) fault.Tick _ none in
+    let delay = first_fails (are_bad_delays t.delay_min t.delay_max) fault.Delay _ tick.1 in
     let span = none_of (span_fault t.version g 0 [] t.spans) _ delay.1 in
-    let every = none_of (fault_if (is_outside 1 1024 t.every) fault.Every) _ span.1 in
-    let losses = none_of (fault_if (nat_lt 1024 t.losses) fault.Losses) _ every.1 in
-    let age = none_of (fault_if (nat_lt t.age (beacon_bound t g)) fault.Age) _ losses.1 in
-    let levels = none_of (fault_if (is_outside 1 32 t.levels) fault.Levels) _ age.1 in
-    let port = none_of (fault_if (are_bad_ports t g) fault.Port) _ levels.1 in
-    let weak = none_of (fault_if (nat_lt (q_in t) (2 * r_in t)) fault.Weak) _ port.1 in
-    let kappa = none_of (fault_if (are_low_kappas t) fault.Kappa) _ weak.1 in
-    let wide = none_of (fault_if (is_wide t g) fault.Wide) _ kappa.1 in
-    let ticks = inside 1 65536 t.tick (passes (is_outside 1 65536 t.tick) fault.Tick tick.0) in
-    let turns = inside 1 1024 t.every (passes (is_outside 1 1024 t.every) fault.Every every.0) in
-    let ports = neither (nat_lt t.port 1024) (nat_lt 65536 (t.port + 2 * length g.edges + g.nodes)) (passes (are_bad_ports t g) fault.Port port.0) in
-    let level = inside 1 32 t.levels (passes (is_outside 1 32 t.levels) fault.Levels levels.0) in
-    let lows = neither (is_low_kappa t (own_given t)) (list_any (λ s. is_low_kappa t (span_given s)) t.spans) (passes (are_low_kappas t) fault.Kappa kappa.0) in
-    let own = fine_of t (own_given t) (passes (are_bad_delays t.delay_min t.delay_max) fault.Delay delay.0) lows.0 in
+    let every = first_fails (is_outside 1 1024 t.every) fault.Every _ span.1 in
+    let losses = first_fails (nat_lt 1024 t.losses) fault.Losses _ every.1 in
+    let age = first_fails (nat_lt t.age (beacon_bound t g)) fault.Age _ losses.1 in
+    let levels = first_fails (is_outside 1 32 t.levels) fault.Levels _ age.1 in
+    let port = first_fails (are_bad_ports t g) fault.Port _ levels.1 in
+    let weak = first_fails (nat_lt (q_in t) (2 * r_in t)) fault.Weak _ port.1 in
+    let kappa = first_fails (are_low_kappas t) fault.Kappa _ weak.1 in
+    let wide = first_fails (is_wide t g) fault.Wide _ kappa.1 in
+    let ticks = inside 1 65536 t.tick tick.0 in
+    let turns = inside 1 1024 t.every every.0 in
+    let ports = neither (nat_lt t.port 1024) (nat_lt 65536 (t.port + 2 * length g.edges + g.nodes)) port.0 in
+    let level = inside 1 32 t.levels levels.0 in
+    let lows = neither (is_low_kappa t (own_given t)) (list_any (λ s. is_low_kappa t (span_given s)) t.spans) kappa.0 in
+    let own = fine_of t (own_given t) delay.0 lows.0 in
     let delays = good_delays t.version g 0 [] t.spans span.0 in
     let kappas = none_passes (λ s. is_low_kappa t (span_given s)) t.spans lows.1 in
     record {
@@ -116,15 +110,15 @@ accepted_of t g none =
       tick_most = ticks.1;
       every = turns.0;
       every_most = turns.1;
-      losses = ltb-false 1024 t.losses (passes (nat_lt 1024 t.losses) fault.Losses losses.0);
-      age = ltb-false t.age (beacon_bound t g) (passes (nat_lt t.age (beacon_bound t g)) fault.Age age.0);
+      losses = ltb-false 1024 t.losses losses.0;
+      age = ltb-false t.age (beacon_bound t g) age.0;
       some_level = level.0;
       few_levels = level.1;
       first_port = ltb-false t.port 1024 ports.0;
       ports = ltb-false 65536 (t.port + 2 * length g.edges + g.nodes) ports.1;
-      strong = ltb-false (q_in t) (2 * r_in t) (passes (nat_lt (q_in t) (2 * r_in t)) fault.Weak weak.0);
+      strong = ltb-false (q_in t) (2 * r_in t) weak.0;
       own = own;
       edges = edges_fine t g.edges (λ e. found_fine t (λ s. joins (s.a, s.b) e.0 e.1) t.spans delays kappas own);
-      in_age = (let enough = ltb-false t.age (beacon_bound t g) (passes (nat_lt t.age (beacon_bound t g)) fault.Age age.0) in λ k d h. (let below = each_below (λ e. e.delay_max) t g k d h in omega (arith, below, enough)));
-      fits = leb-false (2 ^ 62) (2 * t.levels * greatest_kappa_in t g + global_in t g) (passes (is_wide t g) fault.Wide wide.0);
+      in_age = (let enough = ltb-false t.age (beacon_bound t g) age.0 in λ k d h. (let below = each_below (λ e. e.delay_max) t g k d h in omega (arith, below, enough)));
+      fits = leb-false (2 ^ 62) (2 * t.levels * greatest_kappa_in t g + global_in t g) wide.0;
     }

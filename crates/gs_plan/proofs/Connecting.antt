@@ -2,6 +2,7 @@
 use Rattle.std.proofs.Common.{◌≡◌, ℕ, zero, suc, ◌+◌, ◌<◌, ◌≤◌, ◌||◌, ◌==◌, ◌++◌, arith, refl, inl, inr, cond, if◌then◌else◌, not, nat_lt, Bool, true, false, List, [], length, Option, Some, None, is_some, option_map}
 use Rattle.std.specs.Option.{option_or}
 use Rattle.std.proofs.lemmas.Bool.{cases_lt, eqb-false, ltb-false}
+use Rattle.gs_units.proofs.FirstFault.{none_of}
 use Rattle.gs_topo.specs.declared.fault.TopoFault.TheVariants.{Count, Edges, Split}
 use Rattle.gs_topo.specs.Faults.{edges_fault, fault_of, split_fault}
 use Rattle.gs_topo.specs.Graph.{Graph, Adjacent, graph_of}
@@ -9,7 +10,6 @@ use Rattle.gs_topo.specs.Walks.{IsTopology, IsWalk, has_walk, least_from, one_ea
 use Rattle.gs_topo.proofs.Distances.{IsConnected, both_ways, walk-from_has_walk}
 use Rattle.gs_topo.proofs.Sound.{is_graph}
 use Rattle.gs_topo.proofs.Walks.{turned, walk_append}
-use Rattle.gs_topo.proofs.Sound.{none_of}
 use Rattle.gs_plan.proofs.Accepting.{neither}
 
 -- no number passes a test where none is found

@@ -10,6 +10,7 @@ use Rattle.std.proofs.lemmas.List.Filters.{length-filter_more}
 use Rattle.std.proofs.lemmas.List.Sums.{count_by-le-length, length-filter}
 use Rattle.std.proofs.lemmas.List.Kept.{IsStrictlyIncreasing-filter}
 use Rattle.std.proofs.lemmas.List.FromFn.{get_or-range_with_len, length-range_with_len}
+use Rattle.gs_units.proofs.FirstFault.{none_of}
 use Rattle.gs_units.specs.Rates.{boosted, HasNumbers}
 use Rattle.gs_units.specs.Faults.{rate_fault}
 use Rattle.gs_units.specs.Params.{AreValid, IsSound}
@@ -31,7 +32,6 @@ use Rattle.gs_plan.specs.inside.Kept.{AreWords}
 use Rattle.gs_plan.specs.Nodes.{link_in, link_over}
 use Rattle.gs_plan.specs.Numbers.{drift_in, iota_in}
 use Rattle.gs_plan.specs.Shapes.{graph_of_text, shape_edges, shape_nodes}
-use Rattle.gs_topo.proofs.Sound.{none_of}
 use Rattle.gs_plan.proofs.Accepting.{accepted_of}
 use Rattle.gs_plan.proofs.Connecting.{no_fault_is_graph, no_map}
 use Rattle.gs_plan.proofs.Keeping.{all_words}

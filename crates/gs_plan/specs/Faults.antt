@@ -1,8 +1,10 @@
 -- What is wrong with the text of a plan: its first fault in a fixed order.
 use Rattle.std.specs.Prelude.{ℕ, ◌+◌, ◌*◌, ◌^◌, ◌||◌, nat_lt, nat_le, not, if◌then◌else◌, Bool, true, false, List, [], ◌∷◌, ◌++◌, Option, Some, None, length, option_map, is_some}
+use Rattle.std.specs.Bool.{then_some}
 use Rattle.std.specs.List.{list_any}
-use Rattle.std.specs.Option.{option_map_or, option_or}
+use Rattle.std.specs.Option.{option_map_or}
 use Rattle.gs_units.specs.Faults.{rate_fault}
+use Rattle.gs_units.specs.FirstFault.{first_some}
 use Rattle.gs_topo.specs.Faults.{fault_of}
 use Rattle.gs_topo.specs.Graph.{Graph, adjacent}
 use Rattle.gs_planfile.specs.declared.text.EdgeSpan.{EdgeSpan}
@@ -16,15 +18,6 @@ use Rattle.gs_plan.specs.Shapes.{shape_nodes, shape_edges, graph_of_text}
 use Rattle.gs_plan.specs.Edges.{own_given, span_between, span_given}
 use Rattle.gs_plan.specs.Numbers.{least_kappa_in, q_in, r_in}
 use Rattle.gs_plan.specs.Bounds.{greatest_delay_in, global_in, greatest_kappa_in}
-
--- a fault where its test holds
-abbrev pub fault_if : Bool → PlanFault → Option PlanFault
-fault_if test f = if test then Some f else None
-
--- the first of some faults
-abbrev pub first_some : List (Option PlanFault) → Option PlanFault
-first_some [] = None
-first_some (o ∷ os) = option_or o (first_some os)
 
 -- x is outside of low to high
 abbrev pub is_outside : ℕ → ℕ → ℕ → Bool
@@ -73,17 +66,17 @@ is_wide t g = nat_le (2 ^ 62) (2 * t.levels * greatest_kappa_in t g + global_in 
 -- the first fault over a graph
 abbrev pub fault_over : PlanText → Graph → Option PlanFault
 fault_over t g = first_some (
-    fault_if (is_outside 1 65536 t.tick) fault.Tick
-    ∷ fault_if (are_bad_delays t.delay_min t.delay_max) fault.Delay
+    then_some (is_outside 1 65536 t.tick) fault.Tick
+    ∷ then_some (are_bad_delays t.delay_min t.delay_max) fault.Delay
     ∷ span_fault t.version g 0 [] t.spans
-    ∷ fault_if (is_outside 1 1024 t.every) fault.Every
-    ∷ fault_if (nat_lt 1024 t.losses) fault.Losses
-    ∷ fault_if (nat_lt t.age (beacon_bound t g)) fault.Age
-    ∷ fault_if (is_outside 1 32 t.levels) fault.Levels
-    ∷ fault_if (are_bad_ports t g) fault.Port
-    ∷ fault_if (nat_lt (q_in t) (2 * r_in t)) fault.Weak
-    ∷ fault_if (are_low_kappas t) fault.Kappa
-    ∷ fault_if (is_wide t g) fault.Wide
+    ∷ then_some (is_outside 1 1024 t.every) fault.Every
+    ∷ then_some (nat_lt 1024 t.losses) fault.Losses
+    ∷ then_some (nat_lt t.age (beacon_bound t g)) fault.Age
+    ∷ then_some (is_outside 1 32 t.levels) fault.Levels
+    ∷ then_some (are_bad_ports t g) fault.Port
+    ∷ then_some (nat_lt (q_in t) (2 * r_in t)) fault.Weak
+    ∷ then_some (are_low_kappas t) fault.Kappa
+    ∷ then_some (is_wide t g) fault.Wide
     ∷ [])
 
 -- the first fault of a plan

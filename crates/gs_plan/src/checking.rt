@@ -1,4 +1,5 @@
 ghost use Rattle.std.specs.Prelude.{◌≡◌, ◌≢◌, ◌<◌, ◌^◌, ◌*◌, ◌+◌, ◌||◌, [], false, Err, IfErr, IfOk, IfSome, List, None, OnOk, Some, is_none, is_some, length, option_map, replicate, slice_index_or};
+ghost use Rattle.std.specs.Bool.{then_some};
 ghost use Rattle.std.specs.List.{list_any};
 ghost use Rattle.gs_units.specs.Rates.{HasNumbers};
 ghost use Rattle.gs_units.specs.Faults.{rate_fault};
@@ -6,7 +7,7 @@ ghost use Rattle.gs_topo.specs.Graph.{number_of};
 ghost use Rattle.gs_plan.specs.Accepted.{IsAccepted};
 ghost use Rattle.gs_plan.specs.Edges.{edges_given, own_given, span_given};
 ghost use Rattle.gs_plan.specs.inside.Kept.{edge_spans};
-ghost use Rattle.gs_plan.specs.Faults.{are_bad_delays, are_bad_ports, are_low_kappas, beacon_bound, fault_if, fault_over, is_bad_span, is_low_kappa, is_one, is_outside, is_wide, plan_fault, span_fault};
+ghost use Rattle.gs_plan.specs.Faults.{are_bad_delays, are_bad_ports, are_low_kappas, beacon_bound, fault_over, is_bad_span, is_low_kappa, is_one, is_outside, is_wide, plan_fault, span_fault};
 ghost use Rattle.gs_plan.specs.Plans.{text_of};
 
 use crate::bounds::{global, greatest_delay, greatest_kappa};
@@ -23,7 +24,7 @@ use std::alloc::{AllocError, Global};
 /// The fault where the test holds.
 fn refuse(test: bool, fault: PlanFault) -> Result<(), PlanFault>
     ensures ok { OnOk result (test ≡ false) }
-    ensures err { IfErr result (λ e. fault_if test fault ≡ Some e) }
+    ensures err { IfErr result (λ e. then_some test fault ≡ Some e) }
 {
     if test { Err(fault) } else { Ok(()) }
 }

@@ -24,7 +24,7 @@ use Rattle.gs_topo.proofs.Searching.{each_step}
 use Rattle.gs_topo.proofs.Distances.{IsConnected, IsLevelled, is_reached, is_not_reached, levels_below, least_from_is, least_from_none, both_ways}
 use Rattle.gs_topo.proofs.Ascending.{Ascends-filter, all_pairs, pairs_ascend, pairs_within, joins-cases, adjacent_is_joined}
 
-pub none_of : {X : Type 0} (x y : Option X) → option_or x y ≡ None → (x ≡ None) × (y ≡ None)
+none_of : {X : Type 0} (x y : Option X) → option_or x y ≡ None → (x ≡ None) × (y ≡ None)
 none_of None y h = (refl, h)
 none_of (Some x) y h = cc
 

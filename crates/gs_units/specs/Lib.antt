@@ -1,4 +1,5 @@
 pub mod Accepted
+pub mod FirstFault
 pub mod Faults
 pub mod Rates
 pub mod Delays
