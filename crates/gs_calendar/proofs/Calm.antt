@@ -3,6 +3,7 @@ use Rattle.std.proofs.Common.{◌≡◌, ℕ, zero, suc, ◌+◌, ◌<◌, ◌�
 use Rattle.std.specs.List.{AllByRecursion}
 use Rattle.std.proofs.lemmas.Bool.{eq-eqb, lt-leb, le-ltb, or_from, and_right}
 use Rattle.std.proofs.lemmas.List.FromFn.{get_or-map-range_with_len, length-map-range_with_len}
+use Rattle.gs_units.proofs.FirstFault.{last_is}
 use Rattle.gs_topo.proofs.Nearer.{position_nowhere}
 use Rattle.gs_core.specs.declared.event.Event.{Event}
 use Rattle.gs_core.specs.declared.event.Event.TheVariants.{Quantum, Tick, Deliver}
@@ -57,7 +58,7 @@ calm_delivery net c t w from to seq numbers course h a =
     let before = a.aged.before in
     let mail : HasMail from (member w from).sent a.quantum seq = (h.each from a.sender).mails a.quantum seq (omega (arith, before)) a.aged.sent in
     let sent : sent_by w from seq ≡ Some mail.0 = mail.1 in
-    rw (node, place.1, sent) (in_time net c w from to seq place.0 (suc t) mail.0 numbers course h.quanta a mail.2)
+    rw (node, place.1, sent) (last_is (why_sent net w from to place.0 (Some mail.0)) ∙ in_time net c w from to seq place.0 (suc t) mail.0 numbers course h.quanta a mail.2)
 
 pub calm_deliveries : (net : Net) (c : Course) (t : ℕ) (w : World) (es : List Event) → AreNumbers net → IsCourse net c → Listens net c t w → AllByRecursion (IsArrival net c (suc t)) es → Calm net w es
 calm_deliveries net c t w [] numbers course h a = tt
@@ -105,7 +106,8 @@ pub why_stale : (net : Net) (c : Course) (t : ℕ) (w : World) → AreNumbers ne
 why_stale net c t w numbers course h few =
     let shape : (length (incs_at net c (suc t)) == net.nodes) ≡ true = eq-eqb (length (incs_at net c (suc t))) net.nodes (length-map-range_with_len (λ v. c.inc v (suc t)) 0 net.nodes) in
     let end : nat_le (2 ^ 24) w.quanta ≡ false = lt-leb (2 ^ 24) w.quanta (let q = h.quanta in omega (arith, q, few)) in
-    rw (shape, end, no_drift net c (suc t) course, no_tick_due net c t w numbers course h) refl
+    rw (shape, end, no_drift net c (suc t) course, no_tick_due net c t w numbers course h)
+    (last_is (stale_of net w (position (λ m. is_some (stale_place net w.quanta m)) w.members)))
 
 calm_first : (net : Net) (c : Course) (t : ℕ) (w : World) → AreNumbers net → IsCourse net c → IsCalendar net c t w → t < 2 ^ 24 → IsCalm net w (Quantum (incs_at net c (suc t)))
 calm_first net c t w numbers course h few =

@@ -5,8 +5,9 @@ use Rattle.gs_core.specs.declared.event.Event.TheVariants.{Quantum, Tick, Delive
 use Rattle.gs_run.specs.Net.{Net, place_of}
 use Rattle.gs_run.specs.Refusing.{AllowedWhereNoneIsRefused, NoneWantsMemory}
 use Rattle.gs_run.specs.Run.{first_refused, or_refused}
+use Rattle.std.specs.Bool.{then_some}
 use Rattle.std.specs.Option.{option_or}
-use Rattle.gs_run.specs.Why.{refused_if, at_node, stale_at, stale_of, stale_place, why, why_deliver, why_sent}
+use Rattle.gs_run.specs.Why.{at_node, stale_at, stale_of, stale_place, why, why_deliver, why_sent}
 use Rattle.gs_run.specs.World.{Sent, World, effect, member, sent_by}
 use Rattle.gs_run.specs.declared.refused.Refused.{Refused}
 use Rattle.gs_run.specs.declared.refused.Refused.TheVariants.{Shape, End, Drift, TickDue, Early, Late, OutOfMemory}
@@ -22,7 +23,7 @@ or_named (Some r) b ha hb = ha
 none_named : IsNamed None
 none_named e = absurd (cc)
 
-if_named : (test : Bool) (r : Refused) → r ≢ OutOfMemory → IsNamed (refused_if test r)
+if_named : (test : Bool) (r : Refused) → r ≢ OutOfMemory → IsNamed (then_some test r)
 if_named true r other e = other (cc)
 if_named false r other e = absurd (cc)
 
@@ -44,7 +45,9 @@ stale_named net w (Some v) e = stale_at_named net v (stale_place net w.quanta (m
 
 sent_named : (net : Net) (w : World) (from to i : ℕ) (o : Option Sent) → IsNamed (why_sent net w from to i o)
 sent_named net w from to i None e = absurd (cc)
-sent_named net w from to i (Some s) e = or_named (refused_if _ Early) (refused_if _ Late) (if_named _ Early (λ x. absurd (cc))) (if_named _ Late (λ x. absurd (cc))) e
+sent_named net w from to i (Some s) e =
+    or_named (then_some _ Early) _ (if_named _ Early (λ x. absurd (cc)))
+    (or_named (then_some _ Late) None (if_named _ Late (λ x. absurd (cc))) none_named) e
 
 deliver_named : (net : Net) (w : World) (from to seq : ℕ) (o : Option ℕ) → IsNamed (why_deliver net w from to seq o)
 deliver_named net w from to seq None e = absurd (cc)
@@ -52,13 +55,15 @@ deliver_named net w from to seq (Some i) e = sent_named net w from to i (sent_by
 
 pub why_named : (net : Net) (w : World) (e : Event) → IsNamed (why net w e)
 why_named net w (Quantum incs) =
-    or_named (refused_if _ Shape) _ (if_named _ Shape (λ x. absurd (cc)))
-    (or_named (refused_if _ End) _ (if_named _ End (λ x. absurd (cc)))
+    or_named (then_some _ Shape) _ (if_named _ Shape (λ x. absurd (cc)))
+    (or_named (then_some _ End) _ (if_named _ End (λ x. absurd (cc)))
     (or_named (at_node Drift _) _ (drift_named _)
-    (or_named (at_node TickDue _) _ (due_named _) (stale_named net w _))))
+    (or_named (at_node TickDue _) _ (due_named _)
+    (or_named (stale_of net w _) None (stale_named net w _) none_named))))
 why_named net w (Tick v) = if_named _ Shape (λ x. absurd (cc))
 why_named net w (Deliver from to seq) =
-    or_named (refused_if _ Shape) _ (if_named _ Shape (λ x. absurd (cc))) (deliver_named net w from to seq (place_of net to from))
+    or_named (then_some _ Shape) _ (if_named _ Shape (λ x. absurd (cc)))
+    (or_named (why_deliver net w from to seq (place_of net to from)) None (deliver_named net w from to seq (place_of net to from)) none_named)
 
 or_refused_named : (o : Option Refused) (i : ℕ) (later : Option (ℕ × Refused)) (first : ℕ × Refused) → IsNamed o
     → (later ≡ Some first → first.1 ≢ OutOfMemory) → or_refused o i later ≡ Some first → first.1 ≢ OutOfMemory

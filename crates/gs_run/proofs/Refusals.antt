@@ -4,24 +4,16 @@ use Rattle.std.specs.List.{position, position_or_len, find}
 use Rattle.std.proofs.lemmas.Bool.{ltb-false, leb-false}
 use Rattle.std.proofs.lemmas.List.Sums.{fails_before_first}
 use Rattle.std.proofs.lemmas.List.Quantifiers.{position-Some}
+use Rattle.gs_units.proofs.FirstFault.{first_fails, none_of, test_fails}
 use Rattle.gs_units.specs.Growth.{IsIncrement}
 use Rattle.gs_core.specs.declared.event.Event.TheVariants.{Quantum, Tick, Deliver}
 use Rattle.gs_run.specs.Net.{Net, place_of}
 use Rattle.gs_run.specs.World.{World, Sent, member, nobody, sent_by, is_newer}
-use Rattle.std.specs.Option.{option_or}
-use Rattle.gs_run.specs.Why.{refused_if, at_node, drifts, is_due_at, is_stale, stale_place, stale_at, stale_of, why_sent, why_deliver, why}
+use Rattle.gs_run.specs.Why.{at_node, drifts, is_due_at, is_stale, stale_place, stale_at, stale_of, why_sent, why_deliver, why}
 use Rattle.gs_run.specs.declared.refused.Refused.{Refused}
 use Rattle.gs_run.specs.declared.refused.Refused.TheVariants.{Shape, End, Drift, TickDue, Early, Late}
 
 -- ---- where nothing is refused
-
-both_none : (a b : Option Refused) → option_or a b ≡ None → (a ≡ None) × (b ≡ None)
-both_none None b e = (refl, e)
-both_none (Some r) b e = absurd (cc)
-
-not_refused : (t : Bool) (r : Refused) → refused_if t r ≡ None → t ≡ false
-not_refused true r e = absurd (cc)
-not_refused false r e = refl
 
 no_node : (what : ℕ → Refused) (o : Option ℕ) → at_node what o ≡ None → o ≡ None
 no_node what None e = refl
@@ -82,14 +74,15 @@ within net h e = grind (arith, e)
 
 pub may_advance : (net : Net) (w : World) (incs : List ℕ) → why net w (Quantum incs) ≡ None → MayAdvance net w incs
 may_advance net w incs e =
-    let shape = both_none _ _ e in
-    let end = both_none _ _ shape.1 in
-    let drift = both_none _ _ end.1 in
-    let due = both_none _ _ drift.1 in
-    let stale = not_stale net w (position (λ m. is_some (stale_place net w.quanta m)) w.members) refl due.1 in
+    let shape = first_fails _ Shape _ e in
+    let end = first_fails _ End _ shape.1 in
+    let drift = none_of _ _ end.1 in
+    let due = none_of _ _ drift.1 in
+    let last = none_of _ _ due.1 in
+    let stale = not_stale net w (position (λ m. is_some (stale_place net w.quanta m)) w.members) refl last.0 in
     record {
-      count = let e : not (length incs == net.nodes) ≡ false = not_refused _ Shape shape.0 in grind (arith, e);
-      end = leb-false _ _ (not_refused _ End end.0);
+      count = let e : not (length incs == net.nodes) ≡ false = shape.0 in grind (arith, e);
+      end = leb-false _ _ end.0;
       increments = λ v hv.
           within net (slice_index incs v) (position-None (drifts net) incs (no_node Drift _ drift.0) v 0 hv);
       ticks = λ v hv.
@@ -121,14 +114,15 @@ hear_sent : (net : Net) (w : World) (from to seq i : ℕ) (o : Option Sent) → 
     → (s : Sent) × MayHear net w from to seq i s
 hear_sent net w from to seq i None node place sent e = absurd (cc)
 hear_sent net w from to seq i (Some s) node place sent e =
-    let parts = both_none _ _ e in (
+    let soon = first_fails _ Early _ e in
+    let long = first_fails _ Late _ soon.1 in (
       s,
       record {
         node = node;
         place = place;
         sent = sent;
-        early = λ f. ltb-false _ _ (other_fails _ _ (not_refused _ Early parts.0) f);
-        late = λ f. ltb-false _ _ (other_fails _ _ (not_refused _ Late parts.1) f);
+        early = λ f. ltb-false _ _ (other_fails _ _ soon.0 f);
+        late = λ f. ltb-false _ _ (other_fails _ _ long.0 f);
       },
     )
 
@@ -143,9 +137,10 @@ hear_place net w from to seq (Some i) node place e =
 pub may_hear : (net : Net) (w : World) (from to seq : ℕ) → why net w (Deliver from to seq) ≡ None
     → (i : ℕ) × (s : Sent) × MayHear net w from to seq i s
 may_hear net w from to seq e =
-    let parts = both_none _ _ e in
-    let node : to < net.nodes = leb-false net.nodes to (not_refused _ Shape parts.0) in
-    hear_place net w from to seq (place_of net to from) node refl parts.1
+    let shape = first_fails _ Shape _ e in
+    let rest = none_of _ _ shape.1 in
+    let node : to < net.nodes = leb-false net.nodes to shape.0 in
+    hear_place net w from to seq (place_of net to from) node refl rest.0
 
 pub may_tick : (net : Net) (w : World) (v : ℕ) → why net w (Tick v) ≡ None → v < net.nodes
-may_tick net w v e = leb-false net.nodes v (not_refused _ Shape e)
+may_tick net w v e = leb-false net.nodes v (test_fails _ Shape e)

@@ -1,16 +1,13 @@
 -- Why an event is not allowed: the first refusal, in the order of the public call.
-use Rattle.std.specs.Prelude.{ℕ, ◌+◌, ◌^◌, List, length, Bool, ◌==◌, ◌||◌, ◌&&◌, not, Option, Some, None, is_some, nat_lt, nat_le, position, slice_index, if◌then◌else◌}
-use Rattle.std.specs.Option.{option_or}
+use Rattle.std.specs.Prelude.{ℕ, ◌+◌, ◌^◌, List, [], ◌∷◌, length, Bool, ◌==◌, ◌||◌, ◌&&◌, not, Option, Some, None, is_some, nat_lt, nat_le, position, slice_index}
+use Rattle.std.specs.Bool.{then_some}
+use Rattle.gs_units.specs.FirstFault.{first_some}
 use Rattle.gs_core.specs.declared.event.Event.{Event}
 use Rattle.gs_core.specs.declared.event.Event.TheVariants.{Quantum, Tick, Deliver}
 use Rattle.gs_run.specs.Net.{Net, place_of, neighbours}
 use Rattle.gs_run.specs.World.{World, Member, Sent, member, sent_by, is_newer}
 use Rattle.gs_run.specs.declared.refused.Refused.{Refused}
 use Rattle.gs_run.specs.declared.refused.Refused.TheVariants.{Shape, End, Drift, TickDue, Stale, Unknown, Early, Late}
-
--- a refusal where its test holds
-abbrev pub refused_if : Bool → Refused → Option Refused
-refused_if test r = if test then Some r else None
 
 -- the least node at which something is wrong
 abbrev pub at_node : (ℕ → Refused) → Option ℕ → Option Refused
@@ -45,19 +42,21 @@ stale_of net w (Some v) = stale_at net v (stale_place net w.quanta (member w v))
 
 -- rule 10
 abbrev pub why_quantum : Net → World → List ℕ → Option Refused
-why_quantum net w incs =
-    option_or (refused_if (not (length incs == net.nodes)) Shape)
-    (option_or (refused_if (nat_le (2 ^ 24) w.quanta) End)
-    (option_or (at_node Drift (position (drifts net) incs))
-    (option_or (at_node TickDue (position (is_due_at net w.quanta) w.members))
-    (stale_of net w (position (λ m. is_some (stale_place net w.quanta m)) w.members)))))
+why_quantum net w incs = first_some (
+    then_some (not (length incs == net.nodes)) Shape
+    ∷ then_some (nat_le (2 ^ 24) w.quanta) End
+    ∷ at_node Drift (position (drifts net) incs)
+    ∷ at_node TickDue (position (is_due_at net w.quanta) w.members)
+    ∷ stale_of net w (position (λ m. is_some (stale_place net w.quanta m)) w.members)
+    ∷ [])
 
 -- rule 12: a beacon that is newer than what was heard has to be of the right age
 abbrev pub why_sent : Net → World → ℕ → ℕ → ℕ → Option Sent → Option Refused
 why_sent net w from to i None = Some Unknown
-why_sent net w from to i (Some s) =
-    option_or (refused_if (is_newer (member w to) i s && nat_lt w.quanta (s.quantum + net.delay_min to from)) Early)
-    (refused_if (is_newer (member w to) i s && nat_lt (s.quantum + net.delay_max to from) w.quanta) Late)
+why_sent net w from to i (Some s) = first_some (
+    then_some (is_newer (member w to) i s && nat_lt w.quanta (s.quantum + net.delay_min to from)) Early
+    ∷ then_some (is_newer (member w to) i s && nat_lt (s.quantum + net.delay_max to from) w.quanta) Late
+    ∷ [])
 
 abbrev pub why_deliver : Net → World → ℕ → ℕ → ℕ → Option ℕ → Option Refused
 why_deliver net w from to seq None = Some Shape
@@ -66,6 +65,6 @@ why_deliver net w from to seq (Some i) = why_sent net w from to i (sent_by w fro
 -- The first thing that does not allow an event, want of memory aside.
 abbrev pub why : Net → World → Event → Option Refused
 why net w (Quantum incs) = why_quantum net w incs
-why net w (Tick v) = refused_if (nat_le net.nodes v) Shape
+why net w (Tick v) = then_some (nat_le net.nodes v) Shape
 why net w (Deliver from to seq) =
-    option_or (refused_if (nat_le net.nodes to) Shape) (why_deliver net w from to seq (place_of net to from))
+    first_some (then_some (nat_le net.nodes to) Shape ∷ why_deliver net w from to seq (place_of net to from) ∷ [])

@@ -6,6 +6,7 @@ use Rattle.std.proofs.lemmas.List.{get_or-map, get_or_default, length-map, with_
 use Rattle.std.proofs.lemmas.List.Elements.{All-map}
 use Rattle.std.proofs.lemmas.List.Quantifiers.{position-Some}
 use Rattle.std.proofs.lemmas.Slice.Zip.{get_or-zip, length-zip}
+use Rattle.gs_units.proofs.FirstFault.{last_is}
 use Rattle.gs_units.specs.declared.rate.Rate.{Rate}
 use Rattle.gs_core.specs.declared.event.Event.TheVariants.{Quantum}
 use Rattle.gs_planfile.specs.declared.text.PlanText.{PlanText}
@@ -90,7 +91,7 @@ pub else_stale : (net : Net) (w : World) (incs : List ℕ) → length incs ≡ n
     → position (drifts net) incs ≡ None
     → due_in net w ≡ None → why net w (Quantum incs) ≡ stale_in net w
 else_stale net w incs count few none ticked =
-    rw (same_test (length incs) net.nodes count, most_test (2 ^ 24) w.quanta few, none, ticked) refl
+    rw (same_test (length incs) net.nodes count, most_test (2 ^ 24) w.quanta few, none, ticked) (last_is (stale_in net w))
 
 -- ---- what was read
 

@@ -3,6 +3,7 @@ use Rattle.std.proofs.Common.{◌≡◌, ℕ, ◌+◌, ◌-◌, ◌<◌, ◌≤�
 use Rattle.std.specs.List.{find, position, range_with_len}
 use Rattle.gs_topo.specs.Graph.{Graph, neighbours_of}
 use Rattle.gs_plan.specs.Plans.{graph_of, text_of}
+use Rattle.gs_units.proofs.FirstFault.{last_is}
 use Rattle.gs_units.specs.declared.rate.Mode.{Mode}
 use Rattle.gs_estimate.specs.Entries.{entry_at, is_fresh}
 use Rattle.std.proofs.lemmas.List.{get_or-map}
@@ -93,7 +94,8 @@ pub if_newer : (net : Net) (w : World) (from to seq i : ℕ) (s : Sent) → to <
     → is_newer (member w to) i s ≡ true
     → why net w (Deliver from to seq) ≡ age_refused (delay_of net to from) s.quantum w.quanta
 if_newer net w from to seq i s h place sent newer =
-    let low : nat_le net.nodes to ≡ false = below net.nodes to h in rw (low, place, sent, newer) refl
+    let low : nat_le net.nodes to ≡ false = below net.nodes to h in
+    rw (low, place, sent, newer) (last_is (age_refused (delay_of net to from) s.quantum w.quanta))
 
 pub if_old : (net : Net) (w : World) (from to seq i : ℕ) (s : Sent) → to < net.nodes → place_of net to from ≡ Some i
     → sent_by w from seq ≡ Some s
