@@ -1,19 +1,21 @@
 -- Each event of a journal is the timer's or a neighbour's.
-use Rattle.std.proofs.Common.{◌≡◌, ℕ, ◌+◌, Bool, true, false, not, ◌==◌, All, List, [], ◌∷◌, Option, Some, None, is_none, map, refl, ◌∙◌, ap, arith, nat_eq}
+use Rattle.std.proofs.Common.{◌≡◌, ℕ, ◌+◌, false, not, ◌==◌, All, List, [], ◌∷◌, Option, Some, None, is_none, map, refl, ◌∙◌, ap, arith, nat_eq}
 use Rattle.std.specs.Prelude.{Contains}
 use Rattle.std.specs.List.{position}
 use Rattle.std.proofs.lemmas.Bool.{eqb-true}
 use Rattle.std.proofs.lemmas.List.{get_or-map, length-map}
 use Rattle.std.proofs.lemmas.List.Elements.{All-nil, All-cons}
 use Rattle.std.proofs.lemmas.List.Quantifiers.{position-Some}
+use Rattle.gs_units.proofs.FirstFault.{first_fails}
 use Rattle.gs_units.specs.declared.params.Link.{Link}
 use Rattle.gs_units.specs.declared.params.NodeParams.{NodeParams}
 use Rattle.gs_core.specs.Node.{Node, link_place}
 use Rattle.gs_core.specs.declared.reply.Reply.{Reply}
-use Rattle.gs_core.specs.Steps.{Replayed, Whole, Stopped, after, answering, fault_of, or_fault, replay, reply_of, unless_fault}
+use Rattle.gs_core.specs.Steps.{Replayed, Whole, Stopped, after, answering, fault_of, replay, reply_of, unless_fault}
 use Rattle.gs_core.specs.declared.event.NodeEvent.{NodeEvent}
 use Rattle.gs_core.specs.declared.event.NodeEvent.TheVariants.{Tick, Deliver}
 use Rattle.gs_core.specs.declared.reply.CoreFault.{CoreFault}
+use Rattle.gs_core.specs.declared.reply.CoreFault.TheVariants.{Cluster, Stranger}
 use Rattle.gs_board.specs.Entries.{IsOwned}
 use Rattle.gs_board.specs.Ledger.{Ledger, IsKept}
 
@@ -29,16 +31,13 @@ neighbour : (links : List Link) (x : ℕ) (place : Option ℕ) → position (λ 
 neighbour links x None at some = absurd (cc)
 neighbour links x (Some i) at some = linked links x i at
 
-second_passes : (a b : Bool) (x y : CoreFault) (later : Option CoreFault) → or_fault a x (or_fault b y later) ≡ None → b ≡ false
-second_passes true b x y later h = absurd (cc)
-second_passes false true x y later h = absurd (cc)
-second_passes false false x y later h = refl
-
 -- an event without a fault is owned
 owned : (p : NodeParams) (n : Node) (e : NodeEvent) → fault_of p n e ≡ None → IsOwned p e
 owned p n (Tick now) h = tt
 owned p n (Deliver now b) h =
-    neighbour p.links b.sender (link_place p b.sender) refl (second_passes (not (b.cluster == p.cluster)) (is_none (link_place p b.sender)) _ _ _ h)
+    let cluster = first_fails (not (b.cluster == p.cluster)) Cluster _ h in
+    let stranger = first_fails (is_none (link_place p b.sender)) (Stranger b.sender) _ cluster.1 in
+    neighbour p.links b.sender (link_place p b.sender) refl stranger.0
 
 -- behind the first event of a whole replay is a whole one
 record IsWholeBehind (fault : Option CoreFault) (rest : Replayed) (n : Node) : Type 0 where

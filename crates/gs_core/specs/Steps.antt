@@ -1,6 +1,7 @@
 -- Rules 7 and 8 as steps: what keeps a node from an event, what it answers, and the replay of many events.
-use Rattle.std.specs.Prelude.{ℕ, ◌+◌, ◌-◌, ◌^◌, ◌==◌, ◌||◌, ◌&&◌, not, Bool, false, nat_lt, nat_le, if◌then◌else◌, Option, Some, None, is_none, List, [], ◌∷◌}
-use Rattle.std.specs.Option.{option_or}
+use Rattle.std.specs.Prelude.{ℕ, ◌+◌, ◌-◌, ◌^◌, ◌==◌, ◌||◌, ◌&&◌, not, Bool, false, nat_lt, nat_le, Option, Some, None, is_none, List, [], ◌∷◌}
+use Rattle.std.specs.Bool.{then_some}
+use Rattle.gs_units.specs.FirstFault.{first_some}
 use Rattle.gs_units.specs.declared.params.NodeParams.{NodeParams}
 use Rattle.gs_beacon.specs.declared.beacon.Beacon.{Beacon}
 use Rattle.gs_estimate.specs.Entries.{entry_at, answer_of}
@@ -28,26 +29,24 @@ abbrev pub is_ahead : NodeParams → Beacon → Option ℕ → Bool
 is_ahead p b None = false
 is_ahead p b (Some i) = is_end (b.l + (link_at p i).comp) || is_end (b.m + (link_at p i).jump)
 
--- this fault where the test holds, and else a later one
-abbrev pub or_fault : Bool → CoreFault → Option CoreFault → Option CoreFault
-or_fault test fault later = if test then Some fault else later
-
 -- why a reading is refused, whatever comes at it: the first that holds
 abbrev pub reading_fault : NodeParams → Node → ℕ → Option CoreFault
-reading_fault p n now = or_fault (nat_lt now n.last) (Backward n.last now) (or_fault (is_past p n now) Far None)
+reading_fault p n now =
+    first_some (then_some (nat_lt now n.last) (Backward n.last now) ∷ then_some (is_past p n now) Far ∷ [])
 
 -- why a tick is refused: its reading is, or the last sequence was given and a beacon is due
 abbrev pub tick_fault : NodeParams → Node → ℕ → Option CoreFault
 tick_fault p n now =
-    option_or (reading_fault p n now) (or_fault (is_due p n && (n.seq == 2 ^ 64 - 1)) Far None)
+    first_some (reading_fault p n now ∷ then_some (is_due p n && (n.seq == 2 ^ 64 - 1)) Far ∷ [])
 
 -- why a delivery is refused: the beacon is of a stranger, its reading is refused, or what it tells is too far ahead
 abbrev pub deliver_fault : NodeParams → Node → Beacon → ℕ → Option CoreFault
-deliver_fault p n b now =
-    or_fault (not (b.cluster == p.cluster)) Cluster
-    (or_fault (is_none (link_place p b.sender)) (Stranger b.sender)
-    (option_or (reading_fault p n now)
-    (or_fault (is_ahead p b (link_place p b.sender)) Ahead None)))
+deliver_fault p n b now = first_some (
+    then_some (not (b.cluster == p.cluster)) Cluster
+    ∷ then_some (is_none (link_place p b.sender)) (Stranger b.sender)
+    ∷ reading_fault p n now
+    ∷ then_some (is_ahead p b (link_place p b.sender)) Ahead
+    ∷ [])
 
 -- what a tick answers
 abbrev pub tick_reply : NodeParams → Node → ℕ → Ticked
