@@ -1,6 +1,7 @@
 -- Why the calls of a board refuse, in order, and what each refusal leaves.
-use Rattle.std.specs.Prelude.{◌≡◌, ℕ, ◌<◌, ◌≤◌, ◌^◌, ◌==◌, ◌&&◌, Bool, true, false, not, if◌then◌else◌, Option, Some, None, List, length, option_map}
-use Rattle.std.specs.Option.{option_or}
+use Rattle.std.specs.Prelude.{◌≡◌, ℕ, ◌<◌, ◌≤◌, ◌^◌, ◌==◌, ◌&&◌, Bool, true, false, not, Option, Some, None, List, [], ◌∷◌, length, option_map}
+use Rattle.std.specs.Bool.{then_some}
+use Rattle.gs_units.specs.FirstFault.{first_some}
 use Rattle.gs_units.specs.declared.params.NodeParams.{NodeParams}
 use Rattle.gs_beacon.specs.declared.beacon.Beacon.{Beacon}
 use Rattle.gs_estimate.specs.declared.slots.Heard.{Heard}
@@ -24,7 +25,7 @@ use Rattle.gs_board.specs.declared.told.Receipt.{Receipt}
 
 -- what refuses any event before the clock is read, the first that holds: the board is closed, or has no room
 abbrev pub bar_of : Ledger → Option BoardFault
-bar_of t = if t.closed then Some Closed else if t.spare == 0 then Some Full else None
+bar_of t = first_some (then_some t.closed Closed ∷ then_some (t.spare == 0) Full ∷ [])
 
 -- the seat is this neighbour's
 abbrev pub is_seat_of : Option ℕ → ℕ → Bool
@@ -38,13 +39,11 @@ is_stranger p whose sender = not (is_seat_of whose sender && is_neighbour p send
 -- what refuses a beacon before the clock is read
 abbrev pub beacon_bar : NodeParams → Option ℕ → Beacon → Option BoardFault
 beacon_bar p whose b =
-    if not (b.cluster == p.cluster) then Some Cluster
-    else if is_stranger p whose b.sender then Some Stranger
-    else None
+    first_some (then_some (not (b.cluster == p.cluster)) Cluster ∷ then_some (is_stranger p whose b.sender) Stranger ∷ [])
 
 -- what refuses a delivery before the clock is read, the first that holds
 abbrev pub deliver_bar : Ledger → Option ℕ → Beacon → Option BoardFault
-deliver_bar t whose b = option_or (bar_of t) (beacon_bar t.core.params whose b)
+deliver_bar t whose b = first_some (bar_of t ∷ beacon_bar t.core.params whose b ∷ [])
 
 -- the board's name for a fault of its core
 abbrev pub board_fault : CoreFault → BoardFault
