@@ -1,14 +1,12 @@
 -- Bytes spell a beacon exactly where they have no fault.
-use Rattle.std.proofs.Common.{◌≡◌, ℕ, zero, suc, ◌^◌, ◌<◌, ◌≤◌, Bool, true, false, not, cond, eqb, ltb, leb, length, Option, Some, None, refl, arith}
+use Rattle.std.proofs.Common.{◌≡◌, ℕ, zero, suc, ◌^◌, ◌<◌, ◌≤◌, Bool, true, false, not, eqb, ltb, leb, [], ◌∷◌, length, None, refl, arith}
+use Rattle.std.specs.Bool.{then_some}
 use Rattle.std.proofs.lemmas.Bool.{eqb-true, eqb-false, eq-eqb, ne_eqb, ltb-false, le-ltb, leb-false, lt-leb}
+use Rattle.gs_units.proofs.FirstFault.{first_fails}
+use Rattle.gs_units.specs.FirstFault.{first_some}
 use Rattle.gs_beacon.specs.Beacons.{magic, magic_of, zero_of, seq_of, l_of, m_of}
 use Rattle.gs_beacon.specs.Spelling.{FaultlessSpells, SpellingIsFaultless}
-use Rattle.gs_beacon.specs.declared.beacon.BeaconFault.{BeaconFault}
 use Rattle.gs_beacon.specs.declared.beacon.BeaconFault.TheVariants.{Length, Magic, Zero, Sequence, Order, Far}
-
-passed : (b : Bool) (x : BeaconFault) (y : Option BeaconFault) → cond b (Some x) y ≡ None → (b ≡ false) × (y ≡ None)
-passed true x y e = absurd (cc)
-passed false x y e = (refl, e)
 
 pub is_not : (b : Bool) → not b ≡ false → b ≡ true
 is_not true e = refl
@@ -20,12 +18,12 @@ positive (suc n) some = omega arith
 
 pub spells-read : FaultlessSpells
 spells-read bytes none =
-    let count = passed (not (eqb (length bytes) 40)) Length _ none in
-    let tag = passed (not (eqb (magic_of bytes) magic)) Magic _ count.1 in
-    let zeros = passed (not (eqb (zero_of bytes) 0)) Zero _ tag.1 in
-    let seq = passed (eqb (seq_of bytes) 0) Sequence _ zeros.1 in
-    let order = passed (ltb (m_of bytes) (l_of bytes)) Order _ seq.1 in
-    let near = passed (leb (2 ^ 62) (m_of bytes)) Far None order.1 in
+    let count = first_fails (not (eqb (length bytes) 40)) Length _ none in
+    let tag = first_fails (not (eqb (magic_of bytes) magic)) Magic _ count.1 in
+    let zeros = first_fails (not (eqb (zero_of bytes) 0)) Zero _ tag.1 in
+    let seq = first_fails (eqb (seq_of bytes) 0) Sequence _ zeros.1 in
+    let order = first_fails (ltb (m_of bytes) (l_of bytes)) Order _ seq.1 in
+    let near = first_fails (leb (2 ^ 62) (m_of bytes)) Far _ order.1 in
     record {
       valid = record {
         sequence = positive (seq_of bytes) (eqb-false (seq_of bytes) 0 seq.0);
@@ -46,7 +44,7 @@ not_zero : (n : ℕ) → 1 ≤ n → eqb n 0 ≡ false
 not_zero n some = ne_eqb n 0 (λ e. absurd (omega (arith, e, some)))
 
 no_fault : (count tag zeros none less far : Bool) → count ≡ true → tag ≡ true → zeros ≡ true → none ≡ false → less ≡ false → far ≡ false
-    → cond (not count) (Some Length) (cond (not tag) (Some Magic) (cond (not zeros) (Some Zero) (cond none (Some Sequence) (cond less (Some Order) (cond far (Some Far) None))))) ≡ None
+    → first_some (then_some (not count) Length ∷ then_some (not tag) Magic ∷ then_some (not zeros) Zero ∷ then_some none Sequence ∷ then_some less Order ∷ then_some far Far ∷ []) ≡ None
 no_fault count tag zeros none less far a b c d e f = rw (a, b, c, d, e, f) refl
 
 pub none-spelled : SpellingIsFaultless

@@ -1,6 +1,8 @@
 -- What a beacon is, and what its 40 bytes are.
-use Rattle.std.specs.Prelude.{◌≡◌, ℕ, codes, ◌++◌, ◌^◌, ◌<◌, ◌≤◌, ◌==◌, not, nat_lt, nat_le, List, length, Option, Some, None, if◌then◌else◌}
+use Rattle.std.specs.Prelude.{◌≡◌, ℕ, codes, ◌++◌, ◌^◌, ◌<◌, ◌≤◌, ◌==◌, not, nat_lt, nat_le, List, [], ◌∷◌, length, Option}
+use Rattle.std.specs.Bool.{then_some}
 use Rattle.byteorder.specs.Endian.{big_bytes, big_number}
+use Rattle.gs_units.specs.FirstFault.{first_some}
 pub use Rattle.gs_beacon.specs.Numbers.{number_at}
 use Rattle.gs_beacon.specs.declared.beacon.Beacon.{Beacon}
 use Rattle.gs_beacon.specs.declared.beacon.BeaconFault.{BeaconFault}
@@ -86,11 +88,11 @@ pub record Spells (b : Beacon) (bytes : List ℕ) : Type 0 where
 
 -- the first thing that keeps bytes from spelling a beacon
 abbrev pub fault_of : List ℕ → Option BeaconFault
-fault_of bytes =
-    if not (length bytes == 40) then Some Length
-    else if not (magic_of bytes == magic) then Some Magic
-    else if not (zero_of bytes == 0) then Some Zero
-    else if seq_of bytes == 0 then Some Sequence
-    else if nat_lt (m_of bytes) (l_of bytes) then Some Order
-    else if nat_le (2 ^ 62) (m_of bytes) then Some Far
-    else None
+fault_of bytes = first_some (
+    then_some (not (length bytes == 40)) Length
+    ∷ then_some (not (magic_of bytes == magic)) Magic
+    ∷ then_some (not (zero_of bytes == 0)) Zero
+    ∷ then_some (seq_of bytes == 0) Sequence
+    ∷ then_some (nat_lt (m_of bytes) (l_of bytes)) Order
+    ∷ then_some (nat_le (2 ^ 62) (m_of bytes)) Far
+    ∷ [])
