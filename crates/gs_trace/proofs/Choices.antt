@@ -1,12 +1,6 @@
 -- What the results of if-chains say of their tests.
 use Rattle.std.proofs.Common.{◌≡◌, ℕ, Bool, true, false, cond, ◌⊎◌, inl, inr, Option, Some, None, refl}
 use Rattle.std.specs.Prelude.{◌||◌, is_some}
-use Rattle.std.specs.Option.{option_or}
-
--- a chain of faults that gives none went past its first test
-pub none_if : {A : Type 0} (b : Bool) (x : A) (y : Option A) → cond b (Some x) y ≡ None → (b ≡ false) × (y ≡ None)
-none_if true x y e = absurd (cc)
-none_if false x y e = (refl, e)
 
 -- a choice is one of the two
 pub chosen : {A : Type 0} (b : Bool) (x y z : A) → cond b x y ≡ z → ((b ≡ true) × (x ≡ z)) ⊎ ((b ≡ false) × (y ≡ z))
@@ -20,11 +14,6 @@ neither false b e = (refl, e)
 pub none_some : {A : Type 0} (o : Option A) → is_some o ≡ false → o ≡ None
 none_some None e = refl
 none_some (Some x) e = absurd (let wrong : true ≡ false = e in cc)
-
--- neither of two
-pub or_none : {A : Type 0} (x y : Option A) → option_or x y ≡ None → (x ≡ None) × (y ≡ None)
-or_none None y e = (refl, e)
-or_none (Some a) y e = absurd (cc)
 
 -- one size
 pub same_size : (m n : ℕ) → Some m ≡ Some n → m ≡ n

@@ -6,12 +6,12 @@ use Rattle.std.specs.Prelude.{◌↔◌, unwrap_or}
 use Rattle.std.proofs.lemmas.Bool.{ltb-false, le-ltb}
 use Rattle.std.proofs.lemmas.List.{length-append, length-drop, drop_at, drop_more, drop-drop, length-take-le}
 use Rattle.std.proofs.lemmas.List.Elements.{All-nil, All-cons, recursion_from_All}
+use Rattle.gs_units.proofs.FirstFault.{first_fails, none_of}
 use Rattle.gs_beacon.specs.Numbers.{AreBytes}
 use Rattle.gs_trace.specs.Firsts.{IsFirst}
 use Rattle.gs_trace.specs.Formats.{Format, front_fault, fault_from, events_from}
 use Rattle.gs_trace.specs.declared.fault.TraceFault.{TraceFault}
 use Rattle.gs_trace.specs.declared.fault.TraceFault.TheVariants.{Cut, Beacon}
-use Rattle.gs_trace.proofs.Choices.{none_if, or_none}
 use Rattle.gs_trace.proofs.Spelled.{AreBytes-drop, in_front}
 
 -- ---- one event
@@ -59,8 +59,8 @@ front-cases : {E : Type 0} (f : Format E) (place : ℕ) (s : Option ℕ) (bytes 
     → (n : ℕ) × (s ≡ Some n) × (n ≤ length bytes) × (f.refused bytes ≡ false)
 front-cases f place None bytes e = absurd (cc)
 front-cases f place (Some n) bytes e =
-    let within = none_if (ltb (length bytes) n) (Cut place) _ e in
-    let allowed = none_if (f.refused bytes) (Beacon place) None within.1 in
+    let within = first_fails (ltb (length bytes) n) (Cut place) _ e in
+    let allowed = first_fails (f.refused bytes) (Beacon place) _ within.1 in
     (n, refl, ltb-false _ _ within.0, allowed.0)
 
 -- ---- formats whose events are read as they are written
@@ -135,7 +135,7 @@ events-written {E = E} f bytes_of Fits h (e ∷ es) rest fits =
 pub whole-front : {E : Type 0} (f : Format E) (bytes_of : E → List ℕ) (Fits : E → Type 0) (h : IsFormat f bytes_of Fits) (place b : ℕ) (bs : List ℕ)
     → fault_from f place 0 (b ∷ bs) ≡ None → (n : ℕ) × IsWhole f b bs n × (fault_from f (place + n) 0 (drop n (b ∷ bs)) ≡ None)
 whole-front f bytes_of Fits h place b bs none =
-    let parts = or_none (front_fault f place (f.size b) (b ∷ bs)) _ none in
+    let parts = none_of (front_fault f place (f.size b) (b ∷ bs)) _ none in
     let k = front-cases f place (f.size b) (b ∷ bs) parts.0 in
     let w : IsWhole f b bs k.0 = record { size = k.1; some = h.some b k.0 k.1; inside = k.2; allowed = k.3 } in
     (k.0, w, sym (fault-front f place b bs k.0 w) ∙ none)
@@ -225,7 +225,7 @@ pub fault-moves : {E : Type 0} (f : Format E) (p q skip : ℕ) (bytes : List ℕ
 fault-moves f p q skip [] e = refl
 fault-moves f p q (suc skip) (b ∷ bs) e = fault-moves f (p + 1) (q + 1) skip bs e
 fault-moves f p q zero (b ∷ bs) e =
-    let parts = or_none (front_fault f p (f.size b) (b ∷ bs)) _ e in
+    let parts = none_of (front_fault f p (f.size b) (b ∷ bs)) _ e in
     rw (front-moves f p q (f.size b) (b ∷ bs) parts.0) (fault-moves f (p + 1) (q + 1) _ bs parts.1)
 
 -- there are no more events than bytes

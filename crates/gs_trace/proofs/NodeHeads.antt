@@ -1,9 +1,12 @@
 -- The head of a node's trace is read as it is written.
-use Rattle.std.proofs.Common.{◌≡◌, ℕ, ◌^◌, ◌<◌, ◌≤◌, Bool, true, false, cond, eqb, List, [], ◌++◌, length, take, drop, Some, None, refl, sym, ap, ◌∙◌, arith}
+use Rattle.std.proofs.Common.{◌≡◌, ℕ, ◌^◌, ◌<◌, ◌≤◌, Bool, true, false, eqb, List, [], ◌∷◌, ◌++◌, length, take, drop, None, refl, sym, ap, ◌∙◌, arith}
 use Rattle.std.specs.Prelude.{◌||◌, not, nat_lt, nat_le}
+use Rattle.std.specs.Bool.{then_some}
 use Rattle.std.proofs.lemmas.Bool.{eqb-true, eq-eqb, ltb-false, le-ltb, leb-false, lt-leb}
 use Rattle.std.proofs.lemmas.List.{length-append}
 use Rattle.byteorder.specs.Endian.{big_bytes, big_number}
+use Rattle.gs_units.proofs.FirstFault.{first_fails}
+use Rattle.gs_units.specs.FirstFault.{first_some}
 use Rattle.gs_beacon.specs.Numbers.{AreBytes, number_at}
 use Rattle.gs_beacon.proofs.Digits.{number_at-behind, big_bytes-number_at}
 use Rattle.gs_beacon.proofs.Faults.{is_not}
@@ -11,7 +14,7 @@ use Rattle.gs_trace.specs.Starts.{FitsNode}
 use Rattle.gs_trace.specs.Nodes.{head_bytes, head_fault, start_at, tag}
 use Rattle.gs_trace.specs.declared.fault.TraceFault.TheVariants.{Header, Plan}
 use Rattle.gs_trace.specs.declared.start.NodeStart.{NodeStart}
-use Rattle.gs_trace.proofs.Choices.{neither, none_if}
+use Rattle.gs_trace.proofs.Choices.{neither}
 use Rattle.gs_trace.proofs.Traces.{Head, IsHead}
 use Rattle.gs_trace.proofs.WorldHeads.{five_parts}
 
@@ -28,11 +31,11 @@ record IsNodeHead (cluster node : ℕ) (bytes : List ℕ) : Type 0 where
 
 head-is : (cluster node : ℕ) (bytes : List ℕ) → head_fault cluster node bytes ≡ None → IsNodeHead cluster node bytes
 head-is cluster node bytes none =
-    let a = none_if (nat_lt (length bytes) 32 || not (eqb (number_at 0 8 bytes) (big_number 8 tag))) Header _ none in
+    let a = first_fails (nat_lt (length bytes) 32 || not (eqb (number_at 0 8 bytes) (big_number 8 tag))) Header _ none in
     let tagged = neither _ _ a.0 in
-    let b = none_if (nat_le (2 ^ 62) (number_at 16 8 bytes) || nat_le (2 ^ 62) (number_at 24 8 bytes)) Header _ a.1 in
+    let b = first_fails (nat_le (2 ^ 62) (number_at 16 8 bytes) || nat_le (2 ^ 62) (number_at 24 8 bytes)) Header _ a.1 in
     let near = neither _ _ b.0 in
-    let c = none_if (not (eqb (number_at 8 4 bytes) cluster) || not (eqb (number_at 12 4 bytes) node)) Plan None b.1 in
+    let c = first_fails (not (eqb (number_at 8 4 bytes) cluster) || not (eqb (number_at 12 4 bytes) node)) Plan _ b.1 in
     let planned = neither _ _ c.0 in
     record {
       tagged = eqb-true _ _ (is_not _ tagged.1);
@@ -93,7 +96,7 @@ head-back cluster node s rest small few fits =
     long a clock reading b c
   where
     no_fault : (short tagged clock reading of_cluster of_node : Bool) → short ≡ false → tagged ≡ true → clock ≡ false → reading ≡ false → of_cluster ≡ true → of_node ≡ true
-        → cond (short || not tagged) (Some Header) (cond (clock || reading) (Some Header) (cond (not of_cluster || not of_node) (Some Plan) None)) ≡ None
+        → first_some (then_some (short || not tagged) Header ∷ then_some (clock || reading) Header ∷ then_some (not of_cluster || not of_node) Plan ∷ []) ≡ None
     no_fault short tagged clock reading of_cluster of_node a b c d e f = rw (a, b, c, d, e, f) refl
 
 -- ---- the head of a node of a cluster

@@ -1,5 +1,6 @@
 -- The trace of a node: bytes without a fault are the trace of the start and the events that are read, and of no others.
 use Rattle.std.proofs.Common.{◌≡◌, ℕ, ◌^◌, ◌<◌, List, drop, None}
+use Rattle.gs_units.proofs.FirstFault.{none_of}
 use Rattle.gs_beacon.specs.Numbers.{AreBytes}
 use Rattle.gs_core.specs.declared.event.NodeEvent.{NodeEvent}
 use Rattle.gs_trace.specs.Formats.{fault_from}
@@ -8,7 +9,6 @@ use Rattle.gs_trace.specs.Nodes.{event_bytes, Fits, head_fault, SpellsNode, star
 use Rattle.gs_trace.specs.Starts.{FitsNode}
 use Rattle.gs_trace.specs.declared.start.NodeStart.{NodeStart}
 use Rattle.gs_trace.proofs.Answered.{IsOne}
-use Rattle.gs_trace.proofs.Choices.{or_none}
 use Rattle.gs_trace.proofs.NodeEvents.{node_is_format}
 use Rattle.gs_trace.proofs.NodeHeads.{node_head, node_is_head}
 use Rattle.gs_trace.proofs.Traces.{faultless, read_back}
@@ -23,8 +23,9 @@ node-spelled cluster node bytes are small few head events =
 
 pub faultless-is_node : FaultlessIsNode
 faultless-is_node cluster node bytes are small few none =
-    let parts = or_none (head_fault cluster node bytes) _ none in
-    node-spelled cluster node bytes are small few parts.0 parts.1
+    let head = none_of (head_fault cluster node bytes) _ none in
+    let events = none_of (fault_from node_format 32 0 (drop 32 bytes)) _ head.1 in
+    node-spelled cluster node bytes are small few head.0 events.0
 
 -- what is spelled has no fault, and is read
 pub node-is_read_back : NodeIsReadBack

@@ -1,11 +1,11 @@
 -- A head and events behind it: bytes without a fault are the trace of the start and the events that are read, and of no
 -- others.
-use Rattle.std.proofs.Common.{◌≡◌, ℕ, List, [], ◌++◌, length, take, drop, Option, None, refl, sym, ap, ◌∙◌, subst, arith}
+use Rattle.std.proofs.Common.{◌≡◌, ℕ, List, [], ◌∷◌, ◌++◌, length, take, drop, Option, None, refl, sym, ap, ◌∙◌, subst, arith}
 use Rattle.std.specs.Prelude.{All}
 use Rattle.std.specs.List.{flat_map}
-use Rattle.std.specs.Option.{option_or}
 use Rattle.std.proofs.lemmas.List.{append-nil, drop_at}
 use Rattle.std.proofs.lemmas.List.Elements.{All-from_recursion, recursion_from_All}
+use Rattle.gs_units.specs.FirstFault.{first_some}
 use Rattle.gs_beacon.specs.Numbers.{AreBytes}
 use Rattle.gs_trace.specs.Formats.{Format, fault_from, events_from}
 use Rattle.gs_trace.specs.declared.fault.TraceFault.{TraceFault}
@@ -35,7 +35,7 @@ pub record IsTrace {S E : Type 0} (head : Head S) (FitsStart : S → Type 0) (ev
 
 -- the first thing that keeps bytes from being a trace
 abbrev pub trace_fault : {S E : Type 0} → Head S → Format E → List ℕ → Option TraceFault
-trace_fault head f bytes = option_or (head.fault bytes) (fault_from f head.long 0 (drop head.long bytes))
+trace_fault head f bytes = first_some (head.fault bytes ∷ fault_from f head.long 0 (drop head.long bytes) ∷ [])
 
 -- what has no fault is spelled so
 pub faultless : {S E : Type 0} (head : Head S) (FitsStart : S → Type 0) (f : Format E) (event_bytes : E → List ℕ) (Fits : E → Type 0)

@@ -1,12 +1,15 @@
 -- The head of a world's trace is read as it is written.
-use Rattle.std.proofs.Common.{◌≡◌, ℕ, ◌+◌, ◌*◌, ◌^◌, ◌<◌, ◌≤◌, Bool, true, false, cond, eqb, List, [], ◌∷◌, ◌++◌, length, take, drop, Some, None, refl, sym, ap, ◌∙◌, arith}
+use Rattle.std.proofs.Common.{◌≡◌, ℕ, ◌+◌, ◌*◌, ◌^◌, ◌<◌, ◌≤◌, Bool, true, false, eqb, List, [], ◌∷◌, ◌++◌, length, take, drop, None, refl, sym, ap, ◌∙◌, arith}
 use Rattle.std.specs.Prelude.{◌||◌, not, nat_lt}
+use Rattle.std.specs.Bool.{then_some}
 use Rattle.std.specs.List.{AllByRecursion, list_any}
 use Rattle.std.proofs.Math.Seq.{take-add}
 use Rattle.std.proofs.lemmas.Bool.{eqb-true, eq-eqb, ltb-false, le-ltb}
 use Rattle.std.proofs.lemmas.List.{length-append, length-drop}
 use Rattle.std.proofs.lemmas.List.Elements.{All-from_recursion, recursion_from_All}
 use Rattle.byteorder.specs.Endian.{big_bytes, big_number}
+use Rattle.gs_units.proofs.FirstFault.{first_fails}
+use Rattle.gs_units.specs.FirstFault.{first_some}
 use Rattle.gs_beacon.specs.Numbers.{AreBytes, number_at}
 use Rattle.gs_beacon.proofs.Digits.{number_at-behind, big_bytes-number_at}
 use Rattle.gs_beacon.proofs.Faults.{is_not}
@@ -15,7 +18,7 @@ use Rattle.gs_trace.specs.Starts.{FitsWorld}
 use Rattle.gs_trace.specs.Worlds.{head_bytes, head_fault, head_length, is_far, start_at, tag}
 use Rattle.gs_trace.specs.declared.fault.TraceFault.TheVariants.{Header, Plan}
 use Rattle.gs_trace.specs.declared.start.WorldStart.{WorldStart}
-use Rattle.gs_trace.proofs.Choices.{neither, none_if}
+use Rattle.gs_trace.proofs.Choices.{neither}
 use Rattle.gs_trace.proofs.Traces.{Head, IsHead}
 use Rattle.gs_trace.proofs.Spelled.{AreBytes-drop, length-numbers, length-spelled, numbers-spelled, spelled-numbers}
 
@@ -47,12 +50,12 @@ record IsWorldHead (cluster nodes : ℕ) (bytes : List ℕ) : Type 0 where
 
 head-is : (cluster nodes : ℕ) (bytes : List ℕ) → head_fault cluster nodes bytes ≡ None → IsWorldHead cluster nodes bytes
 head-is cluster nodes bytes none =
-    let a = none_if (nat_lt (length bytes) 16 || not (eqb (number_at 0 8 bytes) (big_number 8 tag))) Header _ none in
+    let a = first_fails (nat_lt (length bytes) 16 || not (eqb (number_at 0 8 bytes) (big_number 8 tag))) Header _ none in
     let tagged = neither _ _ a.0 in
-    let b = none_if (not (eqb (number_at 8 4 bytes) cluster) || not (eqb (number_at 12 4 bytes) nodes)) Plan _ a.1 in
+    let b = first_fails (not (eqb (number_at 8 4 bytes) cluster) || not (eqb (number_at 12 4 bytes) nodes)) Plan _ a.1 in
     let planned = neither _ _ b.0 in
-    let c = none_if (nat_lt (length bytes) (head_length nodes)) Header _ b.1 in
-    let d = none_if (is_far (number_at 16 8 bytes) || list_any is_far (numbers_at 8 nodes (drop 24 bytes))) Header None c.1 in
+    let c = first_fails (nat_lt (length bytes) (head_length nodes)) Header _ b.1 in
+    let d = first_fails (is_far (number_at 16 8 bytes) || list_any is_far (numbers_at 8 nodes (drop 24 bytes))) Header _ c.1 in
     let near = neither _ _ d.0 in
     record {
       tagged = eqb-true _ _ (is_not _ tagged.1);
@@ -133,7 +136,7 @@ head-back cluster nodes s rest small few fits =
     long a b c whole clock readings
   where
     no_fault : (short tagged of_cluster of_nodes cut far any : Bool) → short ≡ false → tagged ≡ true → of_cluster ≡ true → of_nodes ≡ true → cut ≡ false → far ≡ false → any ≡ false
-        → cond (short || not tagged) (Some Header) (cond (not of_cluster || not of_nodes) (Some Plan) (cond cut (Some Header) (cond (far || any) (Some Header) None))) ≡ None
+        → first_some (then_some (short || not tagged) Header ∷ then_some (not of_cluster || not of_nodes) Plan ∷ then_some cut Header ∷ then_some (far || any) Header ∷ []) ≡ None
     no_fault short tagged of_cluster of_nodes cut far any a b c d e f g = rw (a, b, c, d, e, f, g) refl
 
 -- ---- the head of a world of so many nodes of a cluster

@@ -1,5 +1,6 @@
 -- The trace of a world: bytes without a fault are the trace of the start and the events that are read, and of no others.
 use Rattle.std.proofs.Common.{◌≡◌, ℕ, ◌^◌, ◌<◌, List, drop, None}
+use Rattle.gs_units.proofs.FirstFault.{none_of}
 use Rattle.gs_beacon.specs.Numbers.{AreBytes}
 use Rattle.gs_core.specs.declared.event.Event.{Event}
 use Rattle.gs_trace.specs.Formats.{fault_from}
@@ -8,7 +9,6 @@ use Rattle.gs_trace.specs.Starts.{FitsWorld}
 use Rattle.gs_trace.specs.Worlds.{event_bytes, Fits, head_fault, head_length, SpellsWorld, start_at, world_fault, world_format}
 use Rattle.gs_trace.specs.declared.start.WorldStart.{WorldStart}
 use Rattle.gs_trace.proofs.Answered.{IsOne}
-use Rattle.gs_trace.proofs.Choices.{or_none}
 use Rattle.gs_trace.proofs.Traces.{faultless, read_back}
 use Rattle.gs_trace.proofs.WorldEvents.{world_is_format}
 use Rattle.gs_trace.proofs.WorldHeads.{world_head, world_is_head}
@@ -23,8 +23,9 @@ world-spelled cluster nodes bytes are small few head events =
 
 pub faultless-is_world : FaultlessIsWorld
 faultless-is_world cluster nodes bytes are small few none =
-    let parts = or_none (head_fault cluster nodes bytes) _ none in
-    world-spelled cluster nodes bytes are small few parts.0 parts.1
+    let head = none_of (head_fault cluster nodes bytes) _ none in
+    let events = none_of (fault_from (world_format nodes) (head_length nodes) 0 (drop (head_length nodes) bytes)) _ head.1 in
+    world-spelled cluster nodes bytes are small few head.0 events.0
 
 -- what is spelled has no fault, and is read
 pub world-is_read_back : WorldIsReadBack

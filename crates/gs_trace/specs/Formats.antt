@@ -1,6 +1,8 @@
 -- How the events of a trace stand in bytes, one behind the other.
-use Rattle.std.specs.Prelude.{ℕ, zero, suc, ◌+◌, ◌-◌, Bool, List, [], ◌∷◌, length, Option, Some, None, nat_lt, unwrap_or, if◌then◌else◌}
+use Rattle.std.specs.Prelude.{ℕ, zero, suc, ◌+◌, ◌-◌, Bool, List, [], ◌∷◌, length, Option, Some, None, nat_lt, unwrap_or}
+use Rattle.std.specs.Bool.{then_some}
 use Rattle.std.specs.Option.{option_or}
+use Rattle.gs_units.specs.FirstFault.{first_some}
 use Rattle.gs_trace.specs.declared.fault.TraceFault.{TraceFault}
 use Rattle.gs_trace.specs.declared.fault.TraceFault.TheVariants.{Kind, Cut, Beacon}
 
@@ -15,7 +17,7 @@ pub record Format (E : Type 0) : Type 0 where
 abbrev pub front_fault : {E : Type 0} → Format E → ℕ → Option ℕ → List ℕ → Option TraceFault
 front_fault f place None bytes = Some (Kind place)
 front_fault f place (Some size) bytes =
-    if nat_lt (length bytes) size then Some (Cut place) else if f.refused bytes then Some (Beacon place) else None
+    first_some (then_some (nat_lt (length bytes) size) (Cut place) ∷ then_some (f.refused bytes) (Beacon place) ∷ [])
 
 -- The fault of the first event at fault, behind the last `skip` bytes of another. The first of all bytes stands at a place.
 abbrev pub fault_from : {E : Type 0} → Format E → ℕ → ℕ → List ℕ → Option TraceFault

@@ -1,8 +1,9 @@
 -- The trace of a node.
 use Rattle.std.specs.Prelude.{◌≡◌, ℕ, codes, ◌^◌, ◌<◌, ◌==◌, ◌||◌, not, Bool, false, nat_lt, nat_le, List, [], ◌∷◌, ◌++◌, take, drop, length, slice_index, All, Option, Some, None, is_some, if◌then◌else◌}
+use Rattle.std.specs.Bool.{then_some}
 use Rattle.std.specs.List.{flat_map}
-use Rattle.std.specs.Option.{option_or}
 use Rattle.byteorder.specs.Endian.{big_bytes, big_number}
+use Rattle.gs_units.specs.FirstFault.{first_some}
 use Rattle.gs_beacon.specs.Beacons.{IsBeacon, FitsFields, bytes_of, beacon_at, fault_of}
 use Rattle.gs_beacon.specs.Numbers.{number_at}
 use Rattle.gs_core.specs.declared.event.NodeEvent.{NodeEvent}
@@ -47,11 +48,11 @@ start_at bytes = record { l0 = number_at 16 8 bytes; hw = number_at 24 8 bytes }
 
 -- the first thing that is wrong with a head
 abbrev pub head_fault : ℕ → ℕ → List ℕ → Option TraceFault
-head_fault cluster node bytes =
-    if nat_lt (length bytes) 32 || not (number_at 0 8 bytes == big_number 8 tag) then Some Header
-    else if nat_le (2 ^ 62) (number_at 16 8 bytes) || nat_le (2 ^ 62) (number_at 24 8 bytes) then Some Header
-    else if not (number_at 8 4 bytes == cluster) || not (number_at 12 4 bytes == node) then Some Plan
-    else None
+head_fault cluster node bytes = first_some (
+    then_some (nat_lt (length bytes) 32 || not (number_at 0 8 bytes == big_number 8 tag)) Header
+    ∷ then_some (nat_le (2 ^ 62) (number_at 16 8 bytes) || nat_le (2 ^ 62) (number_at 24 8 bytes)) Header
+    ∷ then_some (not (number_at 8 4 bytes == cluster) || not (number_at 12 4 bytes == node)) Plan
+    ∷ [])
 
 -- how many bytes an event of a kind has
 abbrev pub size_of : ℕ → Option ℕ
@@ -80,7 +81,7 @@ node_format = record {
 -- The first thing that keeps bytes from being the trace of this node of this cluster.
 abbrev pub node_fault : ℕ → ℕ → List ℕ → Option TraceFault
 node_fault cluster node bytes =
-    option_or (head_fault cluster node bytes) (fault_from node_format 32 0 (drop 32 bytes))
+    first_some (head_fault cluster node bytes ∷ fault_from node_format 32 0 (drop 32 bytes) ∷ [])
 
 -- the events that these bytes spell
 abbrev pub node_events : List ℕ → List NodeEvent

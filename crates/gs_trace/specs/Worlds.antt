@@ -1,8 +1,9 @@
 -- The trace of a world.
 use Rattle.std.specs.Prelude.{◌≡◌, ℕ, codes, ◌+◌, ◌*◌, ◌^◌, ◌<◌, ◌==◌, ◌||◌, not, Bool, false, nat_lt, List, [], ◌∷◌, ◌++◌, drop, length, slice_index, All, Option, Some, None, if◌then◌else◌}
+use Rattle.std.specs.Bool.{then_some}
 use Rattle.std.specs.List.{flat_map, list_any}
-use Rattle.std.specs.Option.{option_or}
 use Rattle.byteorder.specs.Endian.{big_bytes, big_number}
+use Rattle.gs_units.specs.FirstFault.{first_some}
 use Rattle.gs_beacon.specs.Numbers.{number_at}
 use Rattle.gs_core.specs.declared.event.Event.{Event}
 use Rattle.gs_core.specs.declared.event.Event.TheVariants.{Quantum, Tick, Deliver}
@@ -57,12 +58,12 @@ is_far x = nat_lt (2 ^ 61) x
 
 -- the first thing that is wrong with a head
 abbrev pub head_fault : ℕ → ℕ → List ℕ → Option TraceFault
-head_fault cluster nodes bytes =
-    if nat_lt (length bytes) 16 || not (number_at 0 8 bytes == big_number 8 tag) then Some Header
-    else if not (number_at 8 4 bytes == cluster) || not (number_at 12 4 bytes == nodes) then Some Plan
-    else if nat_lt (length bytes) (head_length nodes) then Some Header
-    else if is_far (number_at 16 8 bytes) || list_any is_far (numbers_at 8 nodes (drop 24 bytes)) then Some Header
-    else None
+head_fault cluster nodes bytes = first_some (
+    then_some (nat_lt (length bytes) 16 || not (number_at 0 8 bytes == big_number 8 tag)) Header
+    ∷ then_some (not (number_at 8 4 bytes == cluster) || not (number_at 12 4 bytes == nodes)) Plan
+    ∷ then_some (nat_lt (length bytes) (head_length nodes)) Header
+    ∷ then_some (is_far (number_at 16 8 bytes) || list_any is_far (numbers_at 8 nodes (drop 24 bytes))) Header
+    ∷ [])
 
 -- how many bytes an event of a kind has
 abbrev pub size_of : ℕ → ℕ → Option ℕ
@@ -85,9 +86,10 @@ world_format nodes = record {
 
 -- The first thing that keeps bytes from being the trace of a world of so many nodes of this cluster.
 abbrev pub world_fault : ℕ → ℕ → List ℕ → Option TraceFault
-world_fault cluster nodes bytes =
-    option_or (head_fault cluster nodes bytes)
-    (fault_from (world_format nodes) (head_length nodes) 0 (drop (head_length nodes) bytes))
+world_fault cluster nodes bytes = first_some (
+    head_fault cluster nodes bytes
+    ∷ fault_from (world_format nodes) (head_length nodes) 0 (drop (head_length nodes) bytes)
+    ∷ [])
 
 -- the events that these bytes spell
 abbrev pub world_events : ℕ → List ℕ → List Event
