@@ -1,5 +1,7 @@
 -- Why there is no slot plan of this reach and slot.
-use Rattle.std.specs.Prelude.{ℕ, List, ◌*◌, ◌^◌, ◌||◌, nat_le, nat_lt, Option, Some, None, codes, if◌then◌else◌}
+use Rattle.std.specs.Prelude.{ℕ, List, [], ◌∷◌, ◌*◌, ◌^◌, ◌||◌, nat_le, nat_lt, Option, codes}
+use Rattle.std.specs.Bool.{then_some}
+use Rattle.gs_units.specs.FirstFault.{first_some}
 use Rattle.gs_plan.specs.declared.plan.Plan.{Plan}
 use Rattle.gs_tdma.specs.Near.{guard_in}
 use Rattle.gs_tdma.specs.declared.fault.SlotFault.{SlotFault}
@@ -7,10 +9,10 @@ use Rattle.gs_tdma.specs.declared.fault.SlotFault.TheVariants as fault
 
 -- a reach is 1 to 4
 abbrev pub slot_fault : Plan → ℕ → ℕ → Option SlotFault
-slot_fault p reach slot =
-    if nat_lt reach 1 || nat_lt 4 reach then Some fault.Reach
-    else if nat_le slot (2 * guard_in p reach) || nat_le (2 ^ 48) slot then Some fault.Slot
-    else None
+slot_fault p reach slot = first_some (
+    then_some (nat_lt reach 1 || nat_lt 4 reach) fault.Reach
+    ∷ then_some (nat_le slot (2 * guard_in p reach) || nat_le (2 ^ 48) slot) fault.Slot
+    ∷ [])
 
 -- the words for it
 abbrev pub fault_text : SlotFault → List ℕ
