@@ -1,7 +1,7 @@
 -- Where nothing is refused but stale quanta, the first breach is the first refusal.
 use Rattle.std.proofs.Common.{◌≡◌, ℕ, suc, ◌+◌, ◌⊎◌, inl, inr, arith, ap, sym, refl, ◌∙◌, List, [], ◌∷◌, Option, Some, None}
-use Rattle.std.specs.Option.{option_or}
 use Rattle.std.proofs.lemmas.Option.{same_Some, none-some}
+use Rattle.gs_units.proofs.FirstFault.{first_is, later_is}
 use Rattle.gs_core.specs.declared.event.Event.{Event}
 use Rattle.gs_core.specs.declared.event.Event.TheVariants.{Quantum, Tick, Deliver}
 use Rattle.gs_run.specs.Net.{Net}
@@ -40,17 +40,11 @@ calm_cases net w (Deliver from to seq) h = inl (h, refl)
 
 -- ---- all events
 
-first_of : (o later : Option Breach) → o ≡ None → option_or o later ≡ later
-first_of o later e = ap (λ (x : Option Breach). option_or x later) e
-
-first_is : (o later : Option Breach) (b : Breach) → o ≡ Some b → option_or o later ≡ Some b
-first_is o later b e = ap (λ (x : Option Breach). option_or x later) e
-
 -- where there is no breach, all events are allowed
 pub unbreached_is_allowed : (net : Net) (w : World) (es : List Event) → Calm net w es → first_breach net w es ≡ None → Allowed net w es
 unbreached_is_allowed net w [] h none = tt
 unbreached_is_allowed net w (e ∷ es) h none = elim (calm_cases net w e h.0) [
-  | inl calm ↦ (calm.0, unbreached_is_allowed net (effect net w e) es h.1 (sym (first_of (breach_in net w e) (first_breach net (effect net w e) es) calm.1) ∙ none))
+  | inl calm ↦ (calm.0, unbreached_is_allowed net (effect net w e) es h.1 (sym (later_is (breach_in net w e) (first_breach net (effect net w e) es) calm.1) ∙ none))
   | inr breach ↦ absurd (none-some breach.0 (sym none ∙ first_is (breach_in net w e) (first_breach net (effect net w e) es) breach.0 breach.1.is))
 ]
 
@@ -60,7 +54,7 @@ breach_is_first_refusal net i w [] b h some = absurd (none-some b some)
 breach_is_first_refusal net i w (e ∷ es) b h some = elim (calm_cases net w e h.0) [
   | inl calm ↦
       let rest : (k : ℕ) × IsFirstRefusal net (i + 1) (effect net w e) es b k =
-      breach_is_first_refusal net (i + 1) (effect net w e) es b h.1 (sym (first_of (breach_in net w e) (first_breach net (effect net w e) es) calm.1) ∙ some) in
+      breach_is_first_refusal net (i + 1) (effect net w e) es b h.1 (sym (later_is (breach_in net w e) (first_breach net (effect net w e) es) calm.1) ∙ some) in
       let place : i + 1 + rest.0 ≡ i + suc rest.0 = omega arith in (
         suc rest.0,
         record {

@@ -1,7 +1,7 @@
 -- A script that loses no more beacons in a row than its plan allows for has no breach.
-use Rattle.std.proofs.Common.{◌≡◌, ℕ, zero, suc, ◌+◌, ◌-◌, ◌*◌, ◌<◌, ◌≤◌, ◌⊎◌, inl, inr, false, arith, ap, sym, refl, ◌∙◌, subst, Option, Some, None, is_some, get_or}
-use Rattle.std.specs.Option.{option_or}
+use Rattle.std.proofs.Common.{◌≡◌, ℕ, zero, suc, ◌+◌, ◌-◌, ◌*◌, ◌<◌, ◌≤◌, ◌⊎◌, inl, inr, false, arith, ap, sym, refl, ◌∙◌, subst, Some, None, is_some, get_or}
 use Rattle.std.proofs.lemmas.Bool.{cases_Bool, cases_eq, cases_lt, lt-leb}
+use Rattle.gs_units.proofs.FirstFault.{later_is}
 use Rattle.gs_topo.proofs.Nearer.{position_nowhere}
 use Rattle.gs_plan.specs.Accepted.{IsAccepted}
 use Rattle.gs_plan.specs.Plans.{graph_of, text_of}
@@ -12,7 +12,6 @@ use Rattle.gs_run.specs.Net.{Net, Adjacent, neighbour, neighbours}
 use Rattle.gs_run.specs.Nets.{net_of}
 use Rattle.gs_run.proofs.Places.{neighbour_is_next}
 use Rattle.gs_run.proofs.PlanNumbers.{plan_has_numbers}
-use Rattle.gs_calendar.specs.Breach.{Breach}
 use Rattle.gs_calendar.specs.Calendar.{heard_at, sent_at, stale_at, turn}
 use Rattle.gs_calendar.specs.Course.{Course, course_of}
 use Rattle.gs_calendar.specs.Events.{nodes_of}
@@ -111,7 +110,7 @@ none_at net c most t numbers course leaves few short =
 none_upto : (net : Net) (c : Course) (most : ℕ) → AreNumbers net → IsCourse net c → LeavesTime net most → LosesAtMost net c most → (t : ℕ) → t ≤ c.quanta → breach_upto net c t ≡ None
 none_upto net c most numbers course leaves few zero by = refl
 none_upto net c most numbers course leaves few (suc t) by =
-    ap (λ (o : Option Breach). option_or o (breach_at net c (suc t))) (none_upto net c most numbers course leaves few t (omega (arith, by)))
+    later_is (breach_upto net c t) (breach_at net c (suc t)) (none_upto net c most numbers course leaves few t (omega (arith, by)))
     ∙ none_at net c most t numbers course leaves few (omega (arith, by))
 
 -- ---- of every plan

@@ -5,6 +5,7 @@ use Rattle.std.specs.List.{prefix_len, AllByRecursion}
 use Rattle.std.specs.Option.{option_or}
 use Rattle.std.proofs.lemmas.List.FromFn.{length-range_with_len, get_or-range_with_len}
 use Rattle.std.proofs.lemmas.List.Quantifiers.{position-Some}
+use Rattle.gs_units.proofs.FirstFault.{last_is}
 use Rattle.gs_core.specs.declared.event.Event.{Event}
 use Rattle.gs_core.specs.declared.event.Event.TheVariants.{Quantum, Tick, Deliver}
 use Rattle.gs_run.specs.Net.{Net, neighbours, neighbour}
@@ -84,10 +85,6 @@ or_assoc : (a b c : Option Breach) → option_or (option_or a b) c ≡ option_or
 or_assoc None b c = refl
 or_assoc (Some x) b c = refl
 
-or_none : (a : Option Breach) → option_or a None ≡ a
-or_none None = refl
-or_none (Some x) = refl
-
 breach_more : (net : Net) (w : World) (xs ys : List Event) → first_breach net w (xs ++ ys) ≡ option_or (first_breach net w xs) (first_breach net (run net w xs) ys)
 breach_more net w [] ys = refl
 breach_more net w (e ∷ xs) ys = rw (breach_more net (effect net w e) xs ys) (sym (or_assoc (breach_in net w e) _ _))
@@ -117,7 +114,7 @@ quantum_breach net c t w =
     (each_weaker IsDelivery IsNoQuantum delivery_is_no_quantum (all_deliveries net c t) (are_deliveries net c t (nodes_of net)))
     (each_map IsNoQuantum Tick ticking (each_any _ (λ v. tt) ticking)) in
     ap (option_or (breach_in net w (Quantum (incs_at net c t)))) (no_breach net (effect net w (Quantum (incs_at net c t))) rest none)
-    ∙ or_none (breach_in net w (Quantum (incs_at net c t)))
+    ∙ last_is (breach_in net w (Quantum (incs_at net c t)))
 
 pub breach_is : (net : Net) (c : Course) (w : World) → AreNumbers net → IsCourse net c → IsCalendar net c 0 w → IsHeard net c 0 w → (t : ℕ) → t ≤ 2 ^ 24 → first_breach net w (events_upto net c t) ≡ breach_upto net c t
 breach_is net c w numbers course h heard zero few = refl

@@ -1,10 +1,10 @@
 -- A trace is written event by event.
 use Rattle.std.proofs.Common.{◌≡◌, ℕ, ◌+◌, ◌≤◌, ◌^◌, inl, inr, List, [], ◌∷◌, ◌++◌, length, take, Option, Some, None, refl, sym, ap, ◌∙◌, subst, append_assoc, append-nil, arith, replicate}
 use Rattle.std.specs.List.{flat_map}
-use Rattle.std.specs.Option.{option_or}
 use Rattle.std.proofs.Math.Seq.{take-append_seam}
 use Rattle.std.proofs.lemmas.List.{length-replicate}
 use Rattle.std.proofs.lemmas.List.Elements.{All-replicate}
+use Rattle.gs_units.proofs.FirstFault.{first_is, later_is}
 use Rattle.gs_core.specs.declared.event.Event.{Event}
 use Rattle.gs_core.specs.declared.event.Event.TheVariants.{Quantum, Tick, Deliver}
 use Rattle.gs_io.specs.Causes.{Rose}
@@ -110,7 +110,7 @@ goes_on p s q r w z e left old now new before faults after h written later same 
     let next : World = effect net w e in
     let none : breach_in net w e ≡ None = no_breach net w e (subst (λ (x : Plan). why (net_of x) w e ≡ None) h.plan allowed) in
     let z_is : z ≡ next = moved ∙ ap (λ (x : Plan). effect (net_of x) w e) h.plan in
-    let breach : breach_of_script p s ≡ first_breach net next left = h.breach ∙ ap (λ (b : Option Breach). option_or b (first_breach net next left)) none in
+    let breach : breach_of_script p s ≡ first_breach net next left = h.breach ∙ later_is (breach_in net w e) (first_breach net next left) none in
     let rest : List Event = up_to_breach net next left in
     let whole : trace_of p s ≡ h.written ++ (event_bytes e ++ flat_map event_bytes rest) =
     h.rest ∙ ap (λ (b : Option Breach). h.written ++ (event_bytes e ++ flat_map event_bytes (unless_breach b rest))) none in
@@ -161,7 +161,7 @@ pub refusal_ends : (p : Plan) (s : Said) (q : Plan) (w : World) (e : Event) (lef
 refusal_ends p s q w e left old now new before faults after stop.Breach h written refused =
     let net : Net = net_of p in
     let here : breach_in net w e ≡ Some refused.0 = ap (λ (x : Plan). breach_in (net_of x) w e) (sym h.plan) ∙ refused.1 in
-    let first : breach_of_script p s ≡ Some refused.0 = h.breach ∙ ap (λ (b : Option Breach). option_or b (first_breach net (effect net w e) left)) here in
+    let first : breach_of_script p s ≡ Some refused.0 = h.breach ∙ first_is (breach_in net w e) (first_breach net (effect net w e) left) refused.0 here in
     let whole : trace_of p s ≡ h.written ++ event_bytes e =
     h.rest ∙ ap (λ (b : Option Breach). h.written ++ (event_bytes e ++ flat_map event_bytes (unless_breach b (up_to_breach net (effect net w e) left)))) here
     ∙ ap (λ (xs : List ℕ). h.written ++ xs) (append-nil (event_bytes e)) in

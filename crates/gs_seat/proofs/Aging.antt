@@ -1,10 +1,9 @@
 -- What was heard stays fresh for a while: no quantum is a breach up to the age of the oldest.
-use Rattle.std.proofs.Common.{◌≡◌, ℕ, zero, suc, ◌+◌, ◌-◌, ◌<◌, ◌≤◌, ◌⊎◌, inl, inr, arith, ap, sym, refl, ◌∙◌, subst, List, [], ◌∷◌, length, Option, Some, None, is_some, Bool, true, false, cond, nat_lt, get_or}
+use Rattle.std.proofs.Common.{◌≡◌, ℕ, zero, suc, ◌+◌, ◌-◌, ◌<◌, ◌≤◌, ◌⊎◌, inl, inr, arith, ap, refl, ◌∙◌, subst, List, [], ◌∷◌, length, Some, None, is_some, Bool, true, false, cond, nat_lt, get_or}
 use Rattle.std.specs.List.{AllByRecursion}
-use Rattle.std.specs.Option.{option_or}
-use Rattle.std.proofs.lemmas.Option.{none-some}
 use Rattle.std.proofs.lemmas.Bool.{cases_lt, lt-leb, ltb-true}
 use Rattle.std.proofs.lemmas.List.FromFn.{length-range_with_len, get_or-range_with_len}
+use Rattle.gs_units.proofs.FirstFault.{first_is, later_is, none_of}
 use Rattle.gs_topo.proofs.Nearer.{position_nowhere}
 use Rattle.gs_run.specs.Net.{Net, neighbour, neighbours}
 use Rattle.gs_calendar.specs.Breach.{Breach}
@@ -86,14 +85,10 @@ fresh_is_calm net c t safe fresh soon =
     lt-leb ((heard_at net c (neighbour net k i) k t).quantum + net.age) t (omega (arith, now, soon))))))
 
 pub none_next : (net : Net) (c : Course) (t : ℕ) → breach_upto net c t ≡ None → breach_at net c (suc t) ≡ None → breach_upto net c (suc t) ≡ None
-none_next net c t none now = ap (λ (o : Option Breach). option_or o (breach_at net c (suc t))) none ∙ now
+none_next net c t none now = later_is (breach_upto net c t) (breach_at net c (suc t)) none ∙ now
 
 pub none_before : (net : Net) (c : Course) (t : ℕ) → breach_upto net c (suc t) ≡ None → breach_upto net c t ≡ None
-none_before net c t none = first_none (breach_upto net c t) none
-  where
-    first_none : (o : Option Breach) → option_or o (breach_at net c (suc t)) ≡ None → o ≡ None
-    first_none None e = refl
-    first_none (Some b) e = absurd (none-some b (sym e))
+none_before net c t none = (none_of (breach_upto net c t) (breach_at net c (suc t)) none).0
 
 -- nor is any in a window that ends by then
 pub fresh_window : (net : Net) (c : Course) (m n safe : ℕ) → AreFresh net c m safe → m + n ≤ safe → breach_upto net c m ≡ None → AreFresh net c (m + n) safe × (breach_upto net c (m + n) ≡ None)
@@ -105,18 +100,15 @@ fresh_window net c m (suc n) safe fresh le none =
 
 -- ---- the first breach stands
 
-or_first : (a b : Option Breach) (x : Breach) → a ≡ Some x → option_or a b ≡ Some x
-or_first a b x e = ap (λ (o : Option Breach). option_or o b) e
-
 breach_by : (net : Net) (c : Course) (t j : ℕ) (x : Breach) → breach_upto net c t ≡ Some x → breach_upto net c (t + j) ≡ Some x
 breach_by net c t zero x e = let s : t + zero ≡ t = omega arith in rw s e
 breach_by net c t (suc j) x e =
     let s : t + suc j ≡ suc (t + j) = omega arith in
-    rw s (or_first (breach_upto net c (t + j)) (breach_at net c (suc (t + j))) x (breach_by net c t j x e))
+    rw s (first_is (breach_upto net c (t + j)) (breach_at net c (suc (t + j))) x (breach_by net c t j x e))
 
 -- a breach after none is the breach of all quanta
 pub breach_stands : (net : Net) (c : Course) (t n : ℕ) (x : Breach) → breach_upto net c t ≡ None → breach_at net c (suc t) ≡ Some x → suc t ≤ n → breach_upto net c n ≡ Some x
 breach_stands net c t n x none now le =
-    let first : breach_upto net c (suc t) ≡ Some x = ap (λ (o : Option Breach). option_or o (breach_at net c (suc t))) none ∙ now in
+    let first : breach_upto net c (suc t) ≡ Some x = later_is (breach_upto net c t) (breach_at net c (suc t)) none ∙ now in
     let e : suc t + (n - suc t) ≡ n = omega (arith, le) in
     subst (λ (m : ℕ). breach_upto net c m ≡ Some x) e (breach_by net c (suc t) (n - suc t) x first)
