@@ -1,7 +1,10 @@
 -- Which end the signs of a run show, and what is then true.
-use Rattle.std.proofs.Common.{◌≡◌, ◌∙◌, ◌⊎◌, inl, inr, ℕ, ◌+◌, ◌<◌, ◌≤◌, ◌&&◌, Bool, true, false, nat_le, if◌then◌else◌, MatchOption, All, List, ◌∷◌, length, map, is_some, Option, Some, None, Result, Ok, Err, IsOk, OnOk, sym, refl, ap, subst, arith}
+use Rattle.std.proofs.Common.{◌≡◌, ◌∙◌, ◌⊎◌, inl, inr, ℕ, ◌+◌, ◌<◌, ◌≤◌, ◌&&◌, Bool, true, false, nat_le, MatchOption, All, List, [], ◌∷◌, length, map, is_some, Option, Some, None, Result, Ok, Err, IsOk, OnOk, sym, refl, ap, subst, arith}
+use Rattle.std.specs.Bool.{then_some}
+use Rattle.std.specs.Option.{unwrap_or}
 use Rattle.std.proofs.lemmas.Bool.Decides.{nat_tests}
 use Rattle.std.proofs.lemmas.List.Elements.{All-head}
+use Rattle.gs_units.specs.FirstFault.{first_some}
 use Rattle.gs_trace.specs.declared.start.NodeStart.{NodeStart}
 use Rattle.gs_board.specs.Entries.{neighbours_of}
 use Rattle.gs_board.specs.Ledger.{Ledger}
@@ -21,7 +24,7 @@ use Rattle.gs_node.specs.declared.choosing.Signs.{Signs}
 use Rattle.gs_node.specs.declared.ends.End.{End}
 use Rattle.gs_node.specs.declared.ends.End.TheVariants as end
 use Rattle.gs_node.specs.inside.Runs.{HasReasons, HasRun, Leavings, Reasons, ShownAll}
-use Rattle.gs_node.specs.inside.Signs.{end_of, halt_end, later_end, or_end, torn_end}
+use Rattle.gs_node.specs.inside.Signs.{end_of, halt_end, torn_end}
 
 both_true : (a b : Bool) → (a && b) ≡ true → b ≡ true
 both_true true b h = h
@@ -30,21 +33,43 @@ both_true false b h = absurd (cc)
 is_least : (m n : ℕ) → nat_le m n ≡ true → m ≤ n
 is_least m n h = grind (arith, nat_tests)
 
-later_torn : (s : Signs) → torn_of (later_end s) ≡ None
-later_torn s = by s.view_failed (s.filled && nat_le 4193281 s.length) s.link_failed s.short
-  where
-    by : (v f l k : Bool) → torn_of (if v then end.ClockFault halt.ClockFailed else if f then end.JournalEnd else if l then end.LinkFault else if k then end.OutOfMemory else end.Done) ≡ None
-    by true f l k = refl
-    by false true l k = refl
-    by false false true k = refl
-    by false false false true = refl
-    by false false false false = refl
+-- the ends that are asked after the halt, by their tests
+abbrev later_end : Bool → Bool → Bool → Bool → End
+later_end view filled link short = unwrap_or (first_some (
+    then_some view (end.ClockFault halt.ClockFailed)
+    ∷ then_some filled end.JournalEnd
+    ∷ then_some link end.LinkFault
+    ∷ then_some short end.OutOfMemory
+    ∷ [])) end.Done
 
-later_shows : (t : Ledger) (seats : List Slip) (n : Failures) (rose : Type 0) (s : Signs) → t.halt ≡ None → (s.view_failed ≡ true → 0 < n.clock) → s.length ≡ length t.journal → (s.link_failed ≡ true → 0 < n.inlets + n.outlet + n.door) → Shows t seats n rose (later_end s)
+-- and all of them
+abbrev end_from : Option Torn → Bool → Option Halt → Bool → Bool → Bool → Bool → End
+end_from torn no_thread stopped view filled link short = unwrap_or (first_some (
+    torn_end torn
+    ∷ then_some no_thread end.NoThread
+    ∷ halt_end stopped
+    ∷ then_some view (end.ClockFault halt.ClockFailed)
+    ∷ then_some filled end.JournalEnd
+    ∷ then_some link end.LinkFault
+    ∷ then_some short end.OutOfMemory
+    ∷ [])) end.Done
+
+-- whether a run has filled its journal
+abbrev is_filled : Signs → Bool
+is_filled s = s.filled && nat_le 4193281 s.length
+
+later_torn : (v f l k : Bool) → torn_of (later_end v f l k) ≡ None
+later_torn true f l k = refl
+later_torn false true l k = refl
+later_torn false false true k = refl
+later_torn false false false true = refl
+later_torn false false false false = refl
+
+later_shows : (t : Ledger) (seats : List Slip) (n : Failures) (rose : Type 0) (s : Signs) → t.halt ≡ None → (s.view_failed ≡ true → 0 < n.clock) → s.length ≡ length t.journal → (s.link_failed ≡ true → 0 < n.inlets + n.outlet + n.door) → Shows t seats n rose (later_end s.view_failed (is_filled s) s.link_failed s.short)
 later_shows t seats n rose s none view len link =
-    by s.view_failed view (s.filled && nat_le 4193281 s.length) (λ h. subst (λ (z : ℕ). 4193281 ≤ z) len (is_least 4193281 s.length (both_true s.filled _ h))) s.link_failed link s.short
+    by s.view_failed view (is_filled s) (λ h. subst (λ (z : ℕ). 4193281 ≤ z) len (is_least 4193281 s.length (both_true s.filled _ h))) s.link_failed link s.short
   where
-    by : (v : Bool) → (v ≡ true → 0 < n.clock) → (f : Bool) → (f ≡ true → 4193281 ≤ length t.journal) → (l : Bool) → (l ≡ true → 0 < n.inlets + n.outlet + n.door) → (k : Bool) → Shows t seats n rose (if v then end.ClockFault halt.ClockFailed else if f then end.JournalEnd else if l then end.LinkFault else if k then end.OutOfMemory else end.Done)
+    by : (v : Bool) → (v ≡ true → 0 < n.clock) → (f : Bool) → (f ≡ true → 4193281 ≤ length t.journal) → (l : Bool) → (l ≡ true → 0 < n.inlets + n.outlet + n.door) → (k : Bool) → Shows t seats n rose (later_end v f l k)
     by true vs f fs l ls k = inr (none, refl, vs refl)
     by false vs true fs l ls k = fs refl
     by false vs false fs true ls k = ls refl
@@ -55,19 +80,19 @@ later_shows t seats n rose s none view len link =
 pub is_end : (t : Ledger) (seats : List Slip) (n : Failures) (rose : Type 0) (s : Signs) (why : End) → why ≡ end_of s → MatchOption s.torn (All (IsWhole t) seats) (IsFirstTorn t seats) → (s.no_thread ≡ true → rose) → s.halt ≡ t.halt → (s.view_failed ≡ true → 0 < n.clock) → s.length ≡ length t.journal → (s.link_failed ≡ true → 0 < n.inlets + n.outlet + n.door) → IsEnd t seats n rose why
 is_end t seats n rose s why is torn thread stands view len link = subst (λ (e : End). IsEnd t seats n rose e) (sym is) (by s.torn torn s.no_thread thread s.halt stands)
   where
-    by : (o : Option Torn) → MatchOption o (All (IsWhole t) seats) (IsFirstTorn t seats) → (k : Bool) → (k ≡ true → rose) → (h : Option Halt) → h ≡ t.halt → IsEnd t seats n rose (or_end (torn_end o) (if k then end.NoThread else or_end (halt_end h) (later_end s)))
+    by : (o : Option Torn) → MatchOption o (All (IsWhole t) seats) (IsFirstTorn t seats) → (k : Bool) → (k ≡ true → rose) → (h : Option Halt) → h ≡ t.halt → IsEnd t seats n rose (end_from o k h s.view_failed (is_filled s) s.link_failed s.short)
     by (Some x) m k ks h e = record { torn = m; shows = m; halt = λ z. absurd (cc) }
     by None m true ks h e = record { torn = m; shows = ks refl; halt = λ z. absurd (cc) }
     by None m false ks (Some halt.ClockFailed) e = record { torn = m; shows = inl (sym e, λ z. absurd (cc)); halt = λ z. absurd (cc) }
     by None m false ks (Some (halt.Fell l w)) e = record { torn = m; shows = inl (sym e, λ z. absurd (cc)); halt = λ z. absurd (cc) }
     by None m false ks (Some halt.Far) e = record { torn = m; shows = sym e; halt = λ z. absurd (cc) }
-    by None m false ks None e = record { torn = subst (λ (o : Option Torn). MatchOption o (All (IsWhole t) seats) (IsFirstTorn t seats)) (sym (later_torn s)) m; shows = later_shows t seats n rose s (sym e) view len link; halt = λ z. sym e }
+    by None m false ks None e = record { torn = subst (λ (o : Option Torn). MatchOption o (All (IsWhole t) seats) (IsFirstTorn t seats)) (sym (later_torn s.view_failed (is_filled s) s.link_failed s.short)) m; shows = later_shows t seats n rose s (sym e) view len link; halt = λ z. sym e }
 
 -- a run that was done was not short
 pub done_short : (s : Signs) (why : End) → why ≡ end_of s → why ≡ end.Done → s.short ≡ false
-done_short s why is done = by s.torn s.no_thread s.halt s.view_failed (s.filled && nat_le 4193281 s.length) s.link_failed s.short (sym is ∙ done)
+done_short s why is done = by s.torn s.no_thread s.halt s.view_failed (is_filled s) s.link_failed s.short (sym is ∙ done)
   where
-    by : (o : Option Torn) (n : Bool) (h : Option Halt) (v f l k : Bool) → or_end (torn_end o) (if n then end.NoThread else or_end (halt_end h) (if v then end.ClockFault halt.ClockFailed else if f then end.JournalEnd else if l then end.LinkFault else if k then end.OutOfMemory else end.Done)) ≡ end.Done → k ≡ false
+    by : (o : Option Torn) (n : Bool) (h : Option Halt) (v f l k : Bool) → end_from o n h v f l k ≡ end.Done → k ≡ false
     by (Some x) n h v f l k e = absurd (cc)
     by None true h v f l k e = absurd (cc)
     by None false (Some halt.ClockFailed) v f l k e = absurd (cc)
@@ -141,10 +166,10 @@ done_end a r n w why t seats is torn k h done final =
 pub by_signs : (t : Ledger) (seats : List Slip) (s : Signs) (why : End) → why ≡ end_of s → MatchOption s.torn (All (IsWhole t) seats) (IsFirstTorn t seats) → MatchOption (torn_of why) (All (IsWhole t) seats) (IsFirstTorn t seats)
 by_signs t seats s why is m = subst (λ (e : End). MatchOption (torn_of e) (All (IsWhole t) seats) (IsFirstTorn t seats)) (sym is) (by s.torn m s.no_thread s.halt)
   where
-    by : (o : Option Torn) → MatchOption o (All (IsWhole t) seats) (IsFirstTorn t seats) → (k : Bool) (h : Option Halt) → MatchOption (torn_of (or_end (torn_end o) (if k then end.NoThread else or_end (halt_end h) (later_end s)))) (All (IsWhole t) seats) (IsFirstTorn t seats)
+    by : (o : Option Torn) → MatchOption o (All (IsWhole t) seats) (IsFirstTorn t seats) → (k : Bool) (h : Option Halt) → MatchOption (torn_of (end_from o k h s.view_failed (is_filled s) s.link_failed s.short)) (All (IsWhole t) seats) (IsFirstTorn t seats)
     by (Some x) m k h = m
     by None m true h = m
     by None m false (Some halt.ClockFailed) = m
     by None m false (Some (halt.Fell l w)) = m
     by None m false (Some halt.Far) = m
-    by None m false None = subst (λ (o : Option Torn). MatchOption o (All (IsWhole t) seats) (IsFirstTorn t seats)) (sym (later_torn s)) m
+    by None m false None = subst (λ (o : Option Torn). MatchOption o (All (IsWhole t) seats) (IsFirstTorn t seats)) (sym (later_torn s.view_failed (is_filled s) s.link_failed s.short)) m

@@ -1,5 +1,7 @@
 -- For private functions and proofs: the end that the signs of a run show.
-use Rattle.std.specs.Prelude.{◌&&◌, nat_le, if◌then◌else◌, Option, Some, None}
+use Rattle.std.specs.Prelude.{◌&&◌, nat_le, [], ◌∷◌, Option, Some, None, unwrap_or}
+use Rattle.std.specs.Bool.{then_some}
+use Rattle.gs_units.specs.FirstFault.{first_some}
 use Rattle.gs_board.specs.declared.faults.Halt.{Halt}
 use Rattle.gs_board.specs.declared.faults.Halt.TheVariants as halt
 use Rattle.gs_board.specs.declared.faults.Torn.{Torn}
@@ -19,19 +21,14 @@ abbrev pub torn_end : Option Torn → Option End
 torn_end None = None
 torn_end (Some torn) = Some (end.Torn torn)
 
-abbrev pub or_end : Option End → End → End
-or_end None later = later
-or_end (Some first) later = first
-
--- the ends that are asked after the halt
-abbrev pub later_end : Signs → End
-later_end s =
-    if s.view_failed then end.ClockFault halt.ClockFailed
-    else if s.filled && nat_le 4193281 s.length then end.JournalEnd
-    else if s.link_failed then end.LinkFault
-    else if s.short then end.OutOfMemory
-    else end.Done
-
--- the first end that the signs show
+-- the first end that the signs show, or `Done`
 abbrev pub end_of : Signs → End
-end_of s = or_end (torn_end s.torn) (if s.no_thread then end.NoThread else or_end (halt_end s.halt) (later_end s))
+end_of s = unwrap_or (first_some (
+    torn_end s.torn
+    ∷ then_some s.no_thread end.NoThread
+    ∷ halt_end s.halt
+    ∷ then_some s.view_failed (end.ClockFault halt.ClockFailed)
+    ∷ then_some (s.filled && nat_le 4193281 s.length) end.JournalEnd
+    ∷ then_some s.link_failed end.LinkFault
+    ∷ then_some s.short end.OutOfMemory
+    ∷ [])) end.Done
