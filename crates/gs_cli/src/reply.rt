@@ -9,11 +9,11 @@ use std::alloc::{AllocError, Global};
 /// What is written for some words, and the status that follows.
 #[derive(Drop)]
 pub enum Reply {
-    /// One line.
+    /// One line, with its line feed.
     Line(Status, &'static str),
     /// A text of whole lines.
     Text(Status, Lines),
-    /// A file, which is written as one piece.
+    /// A file, which is written as one piece; its status is `Done`.
     File(Vec<u8>),
 }
 
@@ -37,7 +37,7 @@ impl Reply {
     }
 
     /// Writes all of it, a text one line a write, and answers its status; `WriteFault` where a write
-    /// fails.
+    /// failed, and then a prefix of it was written.
     pub fn write<K: Sink>(&self, out: &mut K) -> Status
         ensures { Gives (answer_in self.now) (K.bytes out.old) (K.bytes out.new)
             (K.faults out.old) (K.faults out.new) result }

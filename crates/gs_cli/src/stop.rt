@@ -18,7 +18,8 @@ impl Stop {
     ghost use Rattle.gs_cli.specs.Answers.{line};
     ghost use Rattle.gs_cli.specs.inside.Stops.{StopsWith};
 
-    /// A refusal by a line of two words, of which the first ends with its own space.
+    /// A refusal by a line of two words, of which the first ends with its own space; `OutOfMemory` where
+    /// there is no memory for the line.
     pub fn refused(alloc: Global, status: Status, first: &str, second: &str) -> Self
         ensures { StopsWith (λ answer. answer ≡ line status (first.now ++ second.now)) result }
     {

@@ -11,7 +11,7 @@ use Rattle.gs_script.specs.Script.{Said}
 use Rattle.gs_script.specs.declared.fault.ScriptFault.{ScriptFault}
 use Rattle.gs_cli.specs.Answers.{Answer}
 use Rattle.gs_cli.specs.Words.{number_within}
-use Rattle.gs_inputs.specs.Inputs.{AreNoInputs, IsNoPlan}
+use Rattle.gs_inputs.specs.Inputs.{AreNoInputs}
 use Rattle.gs_inputs.specs.Plans.{accepted, base_from, checked, parsed, plan_in, text_from}
 use Rattle.gs_inputs.specs.Scripts.{said_from, script_in, steady_from}
 use Rattle.gs_inputs.specs.Sources.{FilesSeen, Source, Count, Text, IsFault}
@@ -66,13 +66,6 @@ steady_refusal text (Some n) = said_refusal (steady_of text n)
 script_refusal : (text : PlanText) (source : Source) → IfErr (script_in text source) IsRefusal
 script_refusal text (Count count) = steady_refusal text (number_within 0 18446744073709551615 count)
 script_refusal text (Text bytes) = said_refusal (script_of text bytes)
-
--- what keeps a command from its plan
-pub no_plan_refuses : (files : FilesSeen) (word : List ℕ) (answer : Answer) → IsNoPlan files word answer → IsRefusal answer
-no_plan_refuses files word answer no_plan = elim no_plan [
-  | inl unread ↦ fault_refuses 1048576 files word answer unread.1
-  | inr refused ↦ refuses (plan_in refused.0) answer (plan_refusal refused.0) refused.2
-]
 
 -- what keeps a command from its plan and script
 pub no_inputs_refuse : (files : FilesSeen) (plan_word script_word : List ℕ) (answer : Answer)

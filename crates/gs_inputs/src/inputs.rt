@@ -27,7 +27,7 @@ pub struct Inputs {
     pub script: Script,
 }
 
-/// The accepted plan that a word names.
+/// The accepted plan that a word names, or what refuses it: its file, or its first fault.
 pub fn read_plan<F: Files>(alloc: Global, files: &mut F, word: &str) -> Result<Plan, Stop>
     ensures ok { IfOk result
         (IsPlan (seen (F.content files.old) (F.faults files.old) (F.faults files.new)) word.now) }
@@ -40,7 +40,8 @@ pub fn read_plan<F: Files>(alloc: Global, files: &mut F, word: &str) -> Result<P
     plan_in(alloc, &source)
 }
 
-/// The plan and the script that two words name. Both are read before either is looked into.
+/// The plan and the script that two words name, or the first that refuses them, in this order: the plan's file,
+/// the script's file, the plan, the script. Both are read before either is looked into.
 pub fn read_inputs<F: Files>(
     alloc: Global,
     files: &mut F,
@@ -61,7 +62,7 @@ pub fn read_inputs<F: Files>(
     accepted(alloc, &plan, &script)
 }
 
-/// The plan and the script of what was read.
+/// The plan and the script of what was read, or what refuses the plan or, where it is accepted, the script.
 pub fn accepted(alloc: Global, plan: &Source<'_>, script: &Source<'_>) -> Result<Inputs, Stop>
     ensures plan { IfOk result (λ inputs. plan_in (source_in plan.now) ≡ Ok (text_of inputs.plan)) }
     ensures script { IfOk result (λ inputs.

@@ -4,7 +4,6 @@
 
 pub use inputs::{Inputs, accepted, read_inputs, read_plan};
 pub use plans::plan_in;
-pub use scripts::script_in;
 pub use source::{Kind, Source, read_file, read_source};
 
 mod inputs;

@@ -79,7 +79,7 @@ fn checked(alloc: Global, text: &PlanText) -> Result<Plan, Stop>
     }
 }
 
-/// The accepted plan that was read.
+/// The accepted plan that was read, or its first fault.
 pub fn plan_in(alloc: Global, source: &Source<'_>) -> Result<Plan, Stop>
     ensures ok { IfOk result (λ plan. plan_in (source_in source.now) ≡ Ok (text_of plan)) }
     ensures text { IfOk result (λ plan. IsText (text_of plan)) }

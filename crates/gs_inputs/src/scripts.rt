@@ -63,8 +63,8 @@ fn scripted(alloc: Global, bytes: &[u8], plan: &Plan) -> Result<Script, Stop>
     }
 }
 
-/// The script that was read for this plan.
-pub fn script_in(alloc: Global, source: &Source<'_>, plan: &Plan) -> Result<Script, Stop>
+/// The script that was read for this plan, or its first fault.
+pub(crate) fn script_in(alloc: Global, source: &Source<'_>, plan: &Plan) -> Result<Script, Stop>
     ensures ok { IfOk result (λ script. script_in (text_of plan.now) (source_in source.now) ≡ Ok script) }
     ensures text { IfOk result (λ script. script.text ≡ text_of plan.now) }
     ensures err { IfErr result (StopsAt (script_in (text_of plan.now) (source_in source.now))) }

@@ -40,7 +40,8 @@ fn count_after(kind: Kind, word: &str) -> Option<&str>
     }
 }
 
-/// The bytes of a file, which may have so many.
+/// The bytes of the file of this name, if it can be read and has at most `most` of them; else the line that says
+/// which of the two it was.
 pub fn read_file<F: Files>(
     alloc: Global,
     files: &mut F,
@@ -67,7 +68,8 @@ pub fn read_file<F: Files>(
     }
 }
 
-/// The source that a word names. A word that begins with the prefix of its kind reads no file.
+/// The source that a word names: a word that begins with the prefix of its kind reads no file, and every other
+/// names one.
 pub fn read_source<'w, F: Files>(
     alloc: Global,
     files: &mut F,

@@ -35,10 +35,6 @@ zip_push R [] (b ∷ ys) x y all last = absurd all
 zip_push R (a ∷ xs) [] x y all last = absurd all
 zip_push R (a ∷ xs) (b ∷ ys) x y all last = (all.0, zip_push R xs ys x y all.1 last)
 
--- one more was given back
-pub one_back : {A : Type 0} (told now : Option (List A)) (x : A) (xs : List A) → now ≡ added told x → OnTold now (λ before. before ++ xs) ≡ OnTold told (λ before. before ++ (x ∷ xs))
-one_back told now x xs is = ap (λ (z : Option (List _)). OnTold z (λ before. before ++ xs)) is ∙ then_told told (x ∷ []) xs
-
 -- one more at the end of a list, and of what its elements tell
 pub all_pushed : {A B : Type 0} (P : B → Type 0) (f : A → B) (xs ys : List A) (x : A) → ys ≡ xs ++ x ∷ [] → All P (map f xs) → P (f x) → All P (map f ys)
 all_pushed P f xs ys x is all last = subst (All P) (sym (ap (map f) is ∙ map-append f xs (x ∷ []))) (All-push P (map f xs) (f x) all last)

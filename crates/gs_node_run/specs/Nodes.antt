@@ -1,5 +1,5 @@
 -- The node that the words of the command `node` name, and what refuses them, in order.
-use Rattle.std.specs.Prelude.{◌≡◌, ℕ, ◌<◌, ◌≤◌, ◌⊎◌, List, Option, Some, None}
+use Rattle.std.specs.Prelude.{◌≡◌, ℕ, ◌<◌, ◌≤◌, ◌⊎◌, Bool, true, List, Option, Some, None}
 use Rattle.gs_units.specs.declared.params.NodeParams.{NodeParams}
 use Rattle.gs_net.specs.declared.lending.Ask.{Ask}
 use Rattle.gs_plan.specs.Plans.{graph_of, params_for, text_of}
@@ -7,7 +7,8 @@ use Rattle.gs_plan.specs.declared.plan.Plan.{Plan}
 use Rattle.gs_cli.specs.Answers.{Answer, usage}
 use Rattle.gs_inputs.specs.Inputs.{IsNoPlan, IsPlan}
 use Rattle.gs_inputs.specs.Plans.{node_refused}
-use Rattle.gs_inputs.specs.Sources.{FilesSeen}
+use Rattle.gs_inputs.specs.Sources.{FilesSeen, is_built_in}
+use Rattle.gs_inputs.specs.declared.source.Kind.TheVariants as kind
 use Rattle.gs_node_run.specs.Addresses.{asks_of}
 use Rattle.gs_node_run.specs.Words.{Order, order_of}
 
@@ -16,6 +17,11 @@ pub record Names (files : FilesSeen) (words : List (List ℕ)) (order : Order) (
   pub spelled : order_of words ≡ Some order
   pub plan_is : IsPlan files order.plan plan
   pub node : order.node < (graph_of plan).nodes
+
+-- an order that names no file, since there is none or its plan is built in
+abbrev pub names_no_file : Option Order → Bool
+names_no_file None = true
+names_no_file (Some order) = is_built_in kind.Plan order.plan
 
 -- what its node is told before it runs
 abbrev pub params_of : Plan → ℕ → NodeParams

@@ -60,7 +60,7 @@ pub fn tell<S: Sink>(say: &mut S, reply: &Reply)
     let _status = reply.write(say);
 }
 
-/// The line of a status, where it has one without words of its own.
+/// The line of a status that says no more than the status, and nothing for every other.
 pub fn plain_line(status: Status) -> Reply
     ensures { answer_in result ≡ plain_answer status }
 {

@@ -1,12 +1,12 @@
-ghost use Rattle.std.specs.Prelude.{◌≡◌, ◌<◌, ◌≤◌, IfOk, IfErr, map, string_bytes};
+ghost use Rattle.std.specs.Prelude.{◌≡◌, ◌<◌, ◌≤◌, IfOk, IfErr, map, string_bytes, true};
 ghost use Rattle.gs_units.specs.Params.{AreValid};
 ghost use Rattle.gs_plan.specs.Plans.{graph_of};
 ghost use Rattle.gs_plan.specs.declared.plan.Plan.{Plan};
 ghost use Rattle.gs_cli.specs.inside.Stops.{StopsWith};
 ghost use Rattle.gs_inputs.specs.Plans.{node_refused};
 ghost use Rattle.gs_inputs.specs.Sources.{seen};
-ghost use Rattle.gs_node_run.specs.Nodes.{IsRefused, Names, params_of};
-ghost use Rattle.gs_node_run.specs.Words.{Order};
+ghost use Rattle.gs_node_run.specs.Nodes.{IsRefused, Names, names_no_file, params_of};
+ghost use Rattle.gs_node_run.specs.Words.{Order, order_of};
 ghost use Rattle.gs_node_run.specs.inside.Jobs.{IsJobOf};
 
 use crate::addresses::{Addresses, addresses_of};
@@ -25,18 +25,21 @@ const USAGE: &str = "usage: gradsync plan, play, trace, audit, replay, gen or no
 pub struct Job {
     pub params: NodeParams,
     pub addresses: Addresses,
-    /// How many turns the timer takes, and for how many units it rests before each.
+    /// How many turns the timer takes.
     pub ticks: u32,
+    /// For how many units it rests before each.
     pub pace: u64,
 }
 
-/// The job that the words of a command line name: words, then the plan's file, the plan, the node.
+/// The job that the words of a command line name, or the first that refuses them, in this order: the words, the
+/// plan's file, the plan, the node.
 pub fn read_job<F: Files>(alloc: Global, files: &mut F, words: &[String]) -> Result<Job, Stop>
     ensures ok { IfOk result (λ job. (order : Order) × (plan : Plan)
         × Names (seen (F.content files.old) (F.faults files.old) (F.faults files.new)) (map string_bytes words.now) order plan
         × IsJobOf plan order.node order.ticks job) }
     ensures err { IfErr result (StopsWith (IsRefused
         (seen (F.content files.old) (F.faults files.old) (F.faults files.new)) (map string_bytes words.now))) }
+    ensures untouched { names_no_file (order_of (map string_bytes words.now)) ≡ true → files.new ≡ files.old }
 {
     let Some(order) = order_of(words) else {
         return Err(Stop::Refused(Reply::Line(Status::Usage, USAGE)));

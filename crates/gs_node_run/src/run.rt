@@ -1,4 +1,4 @@
-ghost use Rattle.std.specs.Prelude.{◌≡◌, ◌++◌, List, map, length, string_bytes};
+ghost use Rattle.std.specs.Prelude.{◌≡◌, ◌++◌, List, map, length, string_bytes, true};
 ghost use Rattle.gs_io.specs.Held.{Appends};
 ghost use Rattle.gs_board.specs.Boards.{ledger_in};
 ghost use Rattle.gs_board.specs.Ledger.{opened};
@@ -14,12 +14,12 @@ ghost use Rattle.gs_node_run.specs.Addresses.{answers_at, asks_for, receives_at}
 ghost use Rattle.gs_node_run.specs.Completeness.{IsUnhindered};
 ghost use Rattle.gs_node_run.specs.Lending.{Borrowed};
 ghost use Rattle.gs_node_run.specs.Lines.{Says, plain_line};
-ghost use Rattle.gs_node_run.specs.Nodes.{Names, asks_for_node, params_of};
+ghost use Rattle.gs_node_run.specs.Nodes.{Names, asks_for_node, names_no_file, params_of};
 ghost use Rattle.gs_node_run.specs.Runs.{IsAsked};
 ghost use Rattle.gs_node_run.specs.Served.{IfClock, IfServed, IsHanded, Serves, WasServed, clock_left};
 ghost use Rattle.gs_node_run.specs.Statuses.{EndsServed, EndsUnserved, IsLate, IsWritten, count, faults};
 ghost use Rattle.gs_node_run.specs.Traces.{trace_of};
-ghost use Rattle.gs_node_run.specs.Words.{Order};
+ghost use Rattle.gs_node_run.specs.Words.{Order, order_of};
 ghost use Rattle.gs_node_run.specs.inside.Told.{Unlent, board_status, link_status};
 
 use crate::addresses::Addresses;
@@ -104,6 +104,9 @@ where
         (K.bytes trace.old) (K.bytes trace.new) (K.faults trace.old) (K.faults trace.new)) }
     ensures whole { result.status ≡ Status.Done → WasServed result.left × IfServed result.left (λ ledger seats.
         Appends (K.bytes trace.old) (K.bytes trace.new) (trace_of ledger)) }
+
+    // Words that name no file read none.
+    ensures untouched { names_no_file (order_of (map string_bytes words.now)) ≡ true → files.new ≡ files.old }
 
     // Where nothing keeps it from its end, the run is done, or memory was short.
     ensures completes { IsUnhindered (seen (F.content files.old) (F.faults files.old) (F.faults files.new)) (map string_bytes words.now)

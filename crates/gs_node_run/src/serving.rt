@@ -30,7 +30,8 @@ use std::alloc::{AllocError, Global};
 use std::sync::Wait;
 use std::thread::Threads;
 
-/// Runs a node over what its ports lent, gives that back, and writes the trace of the journal.
+/// Runs a node over what its ports lent, gives that back, writes the trace of the journal, and tells the line of
+/// the status.
 pub fn serve_node<
     R: Threads + Wait + Sync,
     C: Clock + Send,

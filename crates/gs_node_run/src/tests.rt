@@ -8,6 +8,7 @@ use gs_io::{Gate, MemFiles, MemSink, PlainGate};
 use gs_net::{MemPorts, Ports};
 use std::alloc::{AllocError, Global};
 use std::sync::Wait;
+use std::sync::atomic::{AtomicU64, Ordering};
 use std::test::Fail;
 use std::thread::Threads;
 
@@ -367,5 +368,33 @@ fn a_trace_that_is_cut_off_is_a_front_of_the_whole(rt: HostRuntime) -> Result<()
             assert!(rt; done.trace.starts_with(cut.trace.as_slice()), "{k}");
         }
     }
+    Ok(())
+}
+
+/// A gate that keeps for how many units it was asked to rest last.
+#[derive(Drop)]
+struct PaceGate {
+    units: AtomicU64,
+}
+
+impl Gate for PaceGate {
+    fn enter(&self, _piece: u32) {}
+
+    fn leave(&self, _piece: u32) {}
+
+    fn rest(&self, units: u64) {
+        self.units.store(units, Ordering::SeqCst);
+    }
+}
+
+/// A tick is due every 100 quanta, of which each takes 10,000 units at least.
+#[test]
+fn a_timer_rests_for_half_of_the_time_in_which_a_tick_is_due(rt: HostRuntime) -> Result<(), Fail> {
+    let gate = PaceGate {
+        units: AtomicU64::new(0),
+    };
+    let (ended, _) = run(&rt, rt.alloc(), &Trial::of("node base:1 0 3"), 0, &gate)?;
+    assert!(rt; ended.status == Status::Done);
+    assert_eq!(rt; gate.units.load(Ordering::SeqCst), 500_000);
     Ok(())
 }

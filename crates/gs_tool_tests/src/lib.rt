@@ -11,6 +11,8 @@ mod order;
 #[cfg(test)]
 mod play;
 #[cfg(test)]
+mod reads;
+#[cfg(test)]
 mod running;
 #[cfg(test)]
 mod settle;

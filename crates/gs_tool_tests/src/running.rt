@@ -39,7 +39,7 @@ best 1 406493
 type Ran = (Status, Vec<u8>);
 
 /// The words of a line.
-fn words_of(alloc: Global, line: &str) -> Result<Vec<String>, AllocError> {
+pub(crate) fn words_of(alloc: Global, line: &str) -> Result<Vec<String>, AllocError> {
     let mut words = Vec::new(alloc);
     for word in line.split_whitespace() {
         words.push(String::from_str(alloc, word)?)?;
@@ -48,7 +48,11 @@ fn words_of(alloc: Global, line: &str) -> Result<Vec<String>, AllocError> {
 }
 
 /// Files of these names that hold these bytes, with reads of these numbers failing.
-fn files_of(alloc: Global, files: &[(&str, &[u8])], reads: &[u64]) -> Result<MemFiles, AllocError> {
+pub(crate) fn files_of(
+    alloc: Global,
+    files: &[(&str, &[u8])],
+    reads: &[u64],
+) -> Result<MemFiles, AllocError> {
     let mut held = Vec::new(alloc);
     for (name, bytes) in files {
         held.push((String::from_str(alloc, name)?, bytes.to_vec(alloc)?))?;

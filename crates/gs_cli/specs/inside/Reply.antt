@@ -1,4 +1,4 @@
--- The answer that a reply of the code stands for. These facts are for private functions and proofs.
+-- The answer that a reply of the code stands for.
 use Rattle.gs_cli.specs.Answers.{Answer}
 use Rattle.gs_cli.specs.declared.status.Status.TheVariants.{Done}
 use Rattle.gs_cli.specs.declared.reply.Reply.{Reply}

@@ -1,4 +1,4 @@
--- How a command stops or ends, by its answer. These facts are for private functions and proofs.
+-- How a command stops or ends, by its answer.
 use Rattle.std.specs.Prelude.{◌≡◌, Result, Ok, Err, ⊤}
 use Rattle.gs_cli.specs.Answers.{Answer}
 use Rattle.gs_cli.specs.inside.Reply.{answer_in}

@@ -1,4 +1,4 @@
--- What the code read, as data, and what refuses it. This is for private functions and proofs.
+-- What the code read, as data, and what refuses it.
 use Rattle.std.specs.Prelude.{◌≡◌, ◌⊎◌, Ok, Err}
 use Rattle.gs_plan.specs.Plans.{text_of}
 use Rattle.gs_plan.specs.declared.plan.Plan.{Plan}
