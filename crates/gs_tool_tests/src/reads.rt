@@ -5,10 +5,7 @@ use std::alloc::AllocError;
 use std::thread::Threads;
 use std::time::Clock;
 
-const FILES: [(&str, &[u8]); 2] = [
-    ("bad.toml", b"version = 3"),
-    ("s.csv", b"quanta,9\n"),
-];
+const FILES: [(&str, &[u8]); 2] = [("bad.toml", b"version = 3"), ("s.csv", b"quanta,9\n")];
 
 /// Whether the words of a line read so many files, no more and no fewer: of the reads of one run the one behind
 /// these is to fail, and so it is the test's own.
