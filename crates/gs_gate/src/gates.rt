@@ -5,14 +5,13 @@ use std::time::{Clock, Duration};
 /// thread has come to where the test wants it. Every call returns at last, and has no effect on
 /// anything that a contract speaks of.
 ///
-/// A play calls `enter` and `leave` alone, both from the worker of the piece; `rest` is for the
+/// A play calls `enter` and `leave` alone, both from the thread that runs the piece; `rest` is for the
 /// timer of a node that runs.
 pub trait Gate: Sync {
-    /// A worker begins with a piece: called once for each piece, before its nodes start.
+    /// A worker begins with a piece: called once for each piece and window, before it runs.
     fn enter(&self, piece: u32);
 
-    /// A worker is done with a piece: called once for each piece, after its last event or where the
-    /// play stopped.
+    /// A worker is done with a piece: called once for each piece and window, after it ran.
     fn leave(&self, piece: u32);
 
     /// A timer has nothing to do for so many units, each of a nanosecond.
