@@ -5,17 +5,18 @@ use Rattle.std.specs.Option.{option_or}
 use Rattle.std.proofs.lemmas.Bool.{cases_Bool, cases_eq, eq-eqb, ne_eqb}
 use Rattle.std.proofs.lemmas.List.{length-map, map_push}
 use Rattle.std.proofs.lemmas.List.Folds.{find-append}
-use Rattle.std.proofs.lemmas.List.FromFn.{get_or-map-range_with_len, length-map-range_with_len}
+use Rattle.std.proofs.lemmas.List.FromFn.{length-map-range_with_len}
 use Rattle.std.proofs.lemmas.Option.{same_Some, none-some}
 use Rattle.gs_core.specs.Node.{clock_of, maximum_of}
 use Rattle.gs_run.specs.Net.{Net, params_of, neighbours, link_of}
-use Rattle.gs_run.specs.World.{World, Member, Sent, nobody, member, advanced, sends, ticked_member, member_at_start, world_from}
+use Rattle.gs_run.specs.World.{World, Member, Sent, member, advanced, sends, ticked_member, member_at_start, world_from}
 use Rattle.gs_run.specs.Run.{run}
 use Rattle.gs_calendar.specs.Course.{Course}
 use Rattle.gs_calendar.specs.Calendar.{Turn}
 use Rattle.gs_calendar.specs.Calendar.{turn, ticks, gives_next, sent_at}
 use Rattle.gs_calendar.specs.Events.{quantum_at, events_upto}
 use Rattle.gs_calendar.proofs.Counting.{IsQuiet}
+use Rattle.gs_run.proofs.Start.{start_member}
 use Rattle.gs_run.proofs.Written.{run_more}
 use Rattle.gs_calendar.proofs.OneSeat.{IsQuietWorld, begun, listened, begun_count, begun_member, listened_is_quiet, ticked_if, quantum_shape, quantum_member}
 use Rattle.gs_calendar.proofs.Turns.{turn_given, turn_held, turn_stays}
@@ -259,9 +260,6 @@ start_agrees net c v hw l0 = record {
   places = length-map (neighbours net v) (λ x. 0);
   entries = length-map (map (link_of net v) (neighbours net v)) (λ link. record { seq = 0; value = l0; at = hw }) ∙ length-map (neighbours net v) (link_of net v);
 }
-
-pub start_member : (net : Net) (hw clocks : ℕ → ℕ) (v : ℕ) → v < net.nodes → member (world_from net hw clocks) v ≡ member_at_start net v (hw v) (clocks v)
-start_member net hw clocks v h = get_or-map-range_with_len (λ u. member_at_start net u (hw u) (clocks u)) 0 net.nodes v v nobody h (omega arith)
 
 pub start_is_calendar : (net : Net) (c : Course) (hw clocks : ℕ → ℕ) → IsCalendar net c 0 (world_from net hw clocks)
 start_is_calendar net c hw clocks = record {

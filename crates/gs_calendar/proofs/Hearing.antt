@@ -14,6 +14,7 @@ use Rattle.gs_run.specs.Net.{Net, Adjacent, params_of, link_of, neighbours, neig
 use Rattle.gs_run.specs.World.{World, Member, Sent, member, with_member, heard_member, sent_by, effect, member_at_start, world_from}
 use Rattle.gs_run.specs.Run.{run}
 use Rattle.gs_run.proofs.Places.{neighbour_is_next, neighbour_is_node}
+use Rattle.gs_run.proofs.Start.{start_member}
 use Rattle.gs_calendar.specs.Course.{Course}
 use Rattle.gs_calendar.specs.Calendar.{Newest, newer, newest, none_heard, heard_at, ticks, arrivals}
 use Rattle.gs_calendar.specs.Events.{deliveries, deliveries_to, quantum_at}
@@ -22,7 +23,7 @@ use Rattle.gs_calendar.proofs.Counting.{newest_in, same_newest, hears_newer, hea
 use Rattle.gs_run.proofs.Written.{run_more, member_same}
 use Rattle.gs_run.proofs.Current.{link_place_is}
 use Rattle.gs_calendar.proofs.OneSeat.{IsDelivery, IsQuietWorld, all_elsewhere, run_is_quiet, begun, begun_member, listened, listened_member, ticked_if, quantum_member, elsewhere_keeps, are_deliveries, deliveries_from}
-use Rattle.gs_calendar.proofs.Agree.{HasMail, IsCalendar, Listens, begun_listens, quiet_listens, world_at, world_next, run_agrees, start_member}
+use Rattle.gs_calendar.proofs.Agree.{HasMail, IsCalendar, Listens, begun_listens, quiet_listens, world_at, world_next, run_agrees}
 use Rattle.gs_calendar.proofs.Arrivals.{IsAged, Arrives, arrivals_are_aged, neighbour_has_place, place_is_inside}
 
 -- ---- places

@@ -1,5 +1,5 @@
 -- What a turn of the timer adds to what it has sent and published.
-use Rattle.std.proofs.Common.{◌≡◌, ◌∙◌, inl, inr, ℕ, ◌≤◌, ◌+◌, Option, Some, None, List, [], ◌∷◌, ◌++◌, length, take, ap, sym, refl, subst, arith, append-nil, length-append, Result, Ok, Err, OnOk, OnErr}
+use Rattle.std.proofs.Common.{◌≡◌, ◌∙◌, inl, inr, ℕ, ◌≤◌, ◌+◌, Option, Some, None, List, [], ◌∷◌, ◌++◌, length, take, ap, sym, refl, subst, arith, append-nil, Result, Ok, Err, OnOk, OnErr}
 use Rattle.std.specs.List.{filter_map, flat_map, cons_option}
 use Rattle.std.proofs.lemmas.List.{take_all, length-take-le, take-map}
 use Rattle.std.proofs.Math.Seq.{take-append_seam}
@@ -101,18 +101,6 @@ cut_more links s t a b xs ys k r more start has h sent shown =
       sends = sent_some_more links s.told t.told k sent.0 a b more h.sends (sent.1 ∙ ap (λ (o : Option Ticked). OnTold a (λ taken. taken ++ take sent.0 (sends_by links (beacon_in o)))) (sym has));
       shows = subst (λ (z : List Snap). ys ≡ take (length ys) z) (sym whole) (sym (take-append_seam ys _));
     }
-
--- and before any of it
-pub cut_none : (links : List Link) (s t : Slip) (a b : Option (List (ℕ × List ℕ))) (xs ys : List Snap) → t.told ≡ s.told → t.begun ≡ s.begun → IsInStep links s a xs → b ≡ a → ys ≡ xs → IsCutOff links t b ys
-cut_none links s t a b xs ys told start h sent shown =
-    let whole : snaps_of t.begun t.told ≡ ys = ap (λ (z : NodeStart). snaps_of z t.told) start ∙ (ap (snaps_of s.begun) told ∙ (sym h.shows ∙ sym shown)) in
-    record {
-      sends = subst (λ (z : List Told). SentSoFar links z b) (sym told) (subst (λ (z : Option _). SentSoFar links s.told z) (sym sent) (all_is_so_far links s.told a h.sends));
-      shows = subst (λ (z : List Snap). ys ≡ take (length ys) z) (sym whole) (sym (take_all (length ys) ys (omega arith)));
-    }
-
-pub told_longer : (ks ls : List Told) (k : Told) → ls ≡ ks ++ k ∷ [] → length ls ≡ length ks + 1
-told_longer ks ls k e = ap length e ∙ simp length-append
 
 pub part_mapped : {E : Type 0} (links : List Link) (bytes : List ℕ) (r : Result (Unit {0}) E) (a b : Option (List (ℕ × List ℕ))) → OnErr r ((k : ℕ) × (b ≡ OnTold a (λ taken. taken ++ to_each (take k links) bytes))) → OnErr r ((k : ℕ) × (b ≡ OnTold a (λ taken. taken ++ take k (to_each links bytes))))
 part_mapped links bytes (Ok x) a b h = tt

@@ -7,9 +7,8 @@ use Rattle.std.proofs.lemmas.List.Elements.{All-head}
 use Rattle.std.proofs.lemmas.List.Folds.{position_or_len_push}
 use Rattle.std.proofs.lemmas.List.Sums.{fails_before_first, passes_at_first, position_or_len_is}
 use Rattle.gs_topo.specs.Graph.{Graph}
-use Rattle.gs_planfile.specs.declared.text.PlanText.{PlanText}
 use Rattle.gs_level.specs.declared.tally.Tally.{Tally}
-use Rattle.gs_level.specs.Reports.{first_edge, last_row, peaks_of, report_of}
+use Rattle.gs_level.specs.Reports.{first_edge}
 use Rattle.gs_level.specs.inside.Running.{added, raised_global, raised_near}
 use Rattle.gs_skew.specs.Skews.{edge_skew, global_skew, greatest_over, neighbour_skew}
 use Rattle.gs_level.specs.Tallies.{tally_of}
@@ -127,27 +126,6 @@ tally_push g rows row = elim (cases_lt (greatest_over global_skew rows) (global_
   count : length (rows ++ row ∷ []) ≡ length rows + 1
   count = length-append rows (row ∷ [])
 
--- the tally of one row
-pub tally_of_one : (g : Graph) (row : List ℕ) → tally_of g (row ∷ []) ≡ record {
-  rows = 1;
-  global = global_skew row;
-  global_at = 0;
-  near = neighbour_skew g.edges row;
-  near_at = 0;
-  near_edge = find (λ e. edge_skew row e == neighbour_skew g.edges row) g.edges;
-}
-tally_of_one g row =
-    let f : List ℕ → ℕ = neighbour_skew g.edges in
-    same_tallies (tally_of g (row ∷ [])) _ (omega arith) (omega arith) (place_of_one global_skew row) (omega arith) (place_of_one f row)
-    (same_find g.edges (row_at g.edges (row ∷ [])) row (greatest_over f (row ∷ [])) (f row) (ap (λ (k : ℕ). get_or (row ∷ []) k []) (place_of_one f row)) (omega arith))
-
--- the row added last
-pub last_push : (rows : List (List ℕ)) (row : List ℕ) → last_row (rows ++ row ∷ []) ≡ row
-last_push rows row =
-    let count = length-append rows (row ∷ []) in
-    let e : length (rows ++ row ∷ []) - 1 ≡ length rows = omega (arith, count) in
-    ap (λ (k : ℕ). get_or (rows ++ row ∷ []) k []) e ∙ get_or-last rows row []
-
 -- the row of the greatest neighbour skew has it
 row_has_greatest : (edges : List (ℕ × ℕ)) (rows : List (List ℕ)) → neighbour_skew edges (row_at edges rows) ≡ greatest_over (neighbour_skew edges) rows
 row_has_greatest edges [] =
@@ -168,16 +146,3 @@ edge_named (e ∷ es) rows none =
     let no = find_none (λ x. edge_skew (row_at (e ∷ es) rows) x == greatest_over (neighbour_skew (e ∷ es)) rows) (e ∷ es) some.0 e some.1 none in
     let clash : true ≡ false = sym yes ∙ no in
     cc
-
--- the report of a tally of rows, over the last of them
-pub report_is : (t : PlanText) (g : Graph) (tally : Tally) (before : List (List ℕ)) (clocks : List ℕ) (fast : ℕ) → tally ≡ tally_of g (before ++ clocks ∷ []) → record {
-  quanta = tally.rows - 1;
-  global = tally.global;
-  global_at = tally.global_at;
-  near = tally.near;
-  near_at = tally.near_at;
-  near_edge = tally.near_edge;
-  levels = peaks_of t g clocks t.levels;
-  fast = fast;
-} ≡ report_of t g (before ++ clocks ∷ []) fast
-report_is t g tally before clocks fast is = rw (is, last_push before clocks) refl

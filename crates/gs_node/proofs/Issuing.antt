@@ -24,13 +24,6 @@ ascends xs up i (suc j) lt below =
       | inr past ↦ (let e : j ≡ i = omega (arith, past, lt) in subst (λ (z : ℕ). slice_index xs z < slice_index xs (j + 1)) e step)
     ])
 
--- the neighbour of a link is among the neighbours
-pub contains_node : (links : List Link) (i : ℕ) (link d : Link) → i < length links → link ≡ slice_index_or links i d → Contains (map (λ l. l.node) links) link.node
-contains_node links i link d lt is =
-    let n : length (map (λ (l : Link). l.node) links) ≡ length links = simp length-map in
-    let below : i < length (map (λ (l : Link). l.node) links) = omega (arith, n, lt) in
-    (i, below, get_or-map (λ (l : Link). l.node) links i d link.node lt ∙ ap (λ (l : Link). l.node) (sym is))
-
 -- a neighbour's seat is not among those of the neighbours before it
 pub not_yet : (links : List Link) (i : ℕ) (link d : Link) → IsStrictlyIncreasing (map (λ l. l.node) links) → i < length links → link ≡ slice_index_or links i d
     → Contains (None ∷ map (λ x. Some x) (map (λ l. l.node) (take i links))) (Some link.node) → ⊥

@@ -1,10 +1,10 @@
 -- Events under way, one quantum after another, and the order of their stamps.
-use Rattle.std.proofs.Common.{◌≡◌, ℕ, zero, suc, ◌+◌, ◌-◌, ◌*◌, ◌/◌, ◌%◌, ◌<◌, ◌≤◌, ◌==◌, ◌⊎◌, inl, inr, arith, ap, refl, ◌∙◌, sym, subst, List, [], ◌∷◌, ◌++◌, length, map, Bool, true, false, nat_lt, Option, Some, None, IsSome, All, length-append, slice_index, slice_index_or, if◌then◌else◌, get_or}
+use Rattle.std.proofs.Common.{◌≡◌, ℕ, zero, suc, ◌+◌, ◌-◌, ◌*◌, ◌/◌, ◌%◌, ◌<◌, ◌≤◌, ◌==◌, ◌⊎◌, inl, inr, arith, ap, refl, ◌∙◌, sym, subst, List, [], ◌∷◌, ◌++◌, length, map, Bool, true, false, nat_lt, Option, Some, None, IsSome, All, slice_index, slice_index_or, if◌then◌else◌, get_or}
 use Rattle.std.specs.List.{range_with_len}
 use Rattle.std.specs.Option.{option_or}
 use Rattle.std.proofs.Math.Nat.{add-mul, div-add-mod', mod-lt, le-div_iff_mul-le, div-lt_iff_lt-mul}
 use Rattle.std.proofs.lemmas.Bool.{cases_lt, eq-eqb, ltb-true, ne_eqb}
-use Rattle.std.proofs.lemmas.List.{get_or-map, get_or_append_left, length-map, same_lists}
+use Rattle.std.proofs.lemmas.List.{get_or-map, length-map, same_lists}
 use Rattle.std.proofs.lemmas.List.FromFn.{get_or-map-range_with_len, length-map-range_with_len}
 use Rattle.gs_topo.proofs.Building.{map_range_more}
 use Rattle.gs_order.specs.Orders.{AreOrdered, first_above, timed, timed_from, timed_upto}
@@ -157,24 +157,6 @@ done_after wait t clocks events done are =
 pub done_mapped : (wait t : ℕ) (clocks : List ℕ) (old new : List Timed) (done : ℕ) → AreDone old done
     → new ≡ map (after_clocks wait t clocks) old → AreDone new done
 done_mapped wait t clocks old new done are is = rw is (done_after wait t clocks old done are)
-
-done_more : (events more : List Timed) (done : ℕ) → AreDone events done → AreDone (events ++ more) done
-done_more events more done are =
-    let long = length-append events more in
-    let within = are.inside in
-    record {
-      inside = omega (arith, long, within);
-      finished = λ k d h.
-          let at = get_or_append_left events more d k (omega (arith, within, h)) in
-          subst (λ (e : Timed). IsSome e.finished) (sym at) (are.finished k d h);
-    }
-
-pub done_with_due : (every t n : ℕ) (clocks : List ℕ) (old new : List Timed) (done : ℕ) → AreDone old done
-    → new ≡ with_due every t n clocks old → AreDone new done
-done_with_due every t n clocks old new done are is = rw is (pick (t % every == 0)) where
-  pick : (b : Bool) → AreDone (if b then old ++ begun_at every t n clocks ∷ [] else old) done
-  pick true = done_more old (begun_at every t n clocks ∷ []) done are
-  pick false = are
 
 -- ---- all events
 

@@ -12,7 +12,7 @@ use Rattle.gs_piece.specs.Columns.{clock_at}
 use Rattle.gs_core.specs.Node.{clock_of}
 use Rattle.gs_run.specs.World.{Member}
 use Rattle.gs_calendar.specs.Events.{nodes_of}
-use Rattle.gs_calendar.proofs.Agree.{start_member}
+use Rattle.gs_run.proofs.Start.{start_member}
 use Rattle.gs_seat.specs.Held.{IsWindow}
 use Rattle.gs_piece.proofs.Clocks.{IsCalmQuantum, clocks_next}
 use Rattle.gs_piece.specs.Nodes.{AreNodes, none_handed}

@@ -37,11 +37,6 @@ rows_count net c (suc t) =
     let all = ap length (rows_next net c t) ∙ length-append (rows_of net (start_of net) (events_upto net c t)) (clocks_in net (world_of net c (suc t)) ∷ []) in
     omega (arith, before, all)
 
--- the last of them has the clocks now
-pub rows_end : (net : Net) (c : Course) (t : ℕ) → (before : List (List ℕ)) × (rows_of net (start_of net) (events_upto net c t) ≡ before ++ clocks_in net (world_of net c t) ∷ [])
-rows_end net c zero = ([], refl)
-rows_end net c (suc t) = (rows_of net (start_of net) (events_upto net c t), rows_next net c t)
-
 -- at the start all clocks are 0
 pub first_row : (net : Net) (c : Course) → replicate net.nodes 0 ≡ clocks_in net (world_of net c 0)
 first_row net c =

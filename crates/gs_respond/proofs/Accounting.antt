@@ -102,6 +102,3 @@ answered_new node (Some s) (Some old) last fresh unused t rs e f =
     let none : rs ≡ [] = sym (some_same old rs f) ∙ unused in
     let start : IsAnswered node [] [] None last = record { asked = refl; answers = All-nil (IsAnswerOf node); clocks = refl } in
     subst (λ (z : List Item). IsAnswered node z rs None last) (sym given) (subst (λ (z : List (List ℕ)). IsAnswered node [] z None last) (sym none) start)
-
-pub counted_new : (tale : Option Tale) → Counted tale 0
-counted_new tale t e = omega arith

@@ -1,8 +1,8 @@
 -- Why a responder stops, turn by turn.
-use Rattle.std.proofs.Common.{◌≡◌, ◌∙◌, ℕ, ◌<◌, ◌≤◌, ◌+◌, Option, Some, None, List, [], ap, sym, refl, subst, arith, true, false, is_some, inl, inr}
+use Rattle.std.proofs.Common.{◌≡◌, ◌∙◌, ℕ, ◌<◌, ◌≤◌, ◌+◌, Option, Some, None, List, ap, sym, refl, subst, arith, true, false, is_some, inl, inr}
 use Rattle.gs_net.specs.Tales.{Moves, Tale}
 use Rattle.gs_net.specs.declared.items.Item.TheVariants as item
-use Rattle.gs_net.specs.declared.items.Got.TheVariants.{Datagram, Ended, Quiet}
+use Rattle.gs_net.specs.declared.items.Got.TheVariants.{Datagram, Quiet}
 use Rattle.gs_net.specs.Items.{datagrams, ends_in, is_quiet}
 use Rattle.gs_respond.specs.inside.Accounts.{Counted}
 use Rattle.gs_respond.specs.inside.Stops.{IsLater, IsReplied, Rests}
@@ -14,9 +14,6 @@ use Rattle.gs_respond.proofs.Taking.{one_datagram_more}
 
 pub rests_open : (tale : Option Tale) (owed : Option ℕ) (door clock : ℕ) → Rests rest.Open tale owed door clock
 rests_open tale owed door clock = record { ended = λ e. absurd (cc); quiet = λ e. absurd (cc); many = λ e. absurd (cc); clock_failed = λ e. absurd (cc); door_failed = λ e. absurd (cc) }
-
-pub rests_owing : (tale : Option Tale) (owed : Option ℕ) (door clock : ℕ) → Rests rest.Owing tale owed door clock
-rests_owing tale owed door clock = record { ended = λ e. absurd (cc); quiet = λ e. absurd (cc); many = λ e. absurd (cc); clock_failed = λ e. absurd (cc); door_failed = λ e. absurd (cc) }
 
 pub rests_door : (tale : Option Tale) (owed : Option ℕ) (door clock : ℕ) → 0 < door → Rests rest.Door tale owed door clock
 rests_door tale owed door clock h = record { ended = λ e. absurd (cc); quiet = λ e. absurd (cc); many = λ e. absurd (cc); clock_failed = λ e. absurd (cc); door_failed = λ _. h }
@@ -32,15 +29,6 @@ rests_quiet into a b owed door clock none h = record { ended = λ e. absurd (cc)
     quiet_end (Some s) b h t e =
         let same : h.0 ≡ t = some_same h.0 t (sym h.1 ∙ e) in
         ap (λ (z : Tale). ends_in is_quiet z.given) (sym same) ∙ (ap (ends_in is_quiet) h.2.given ∙ ends_more is_quiet s.given item.Quiet)
-
-pub rests_ended : (into : List ℕ) (a b : Option Tale) (owed : Option ℕ) (door clock : ℕ) → owed ≡ None → Moves Ended into a b → Rests rest.Ended b owed door clock
-rests_ended into a b owed door clock none h = record { ended = λ _. (none, none_left a b h); quiet = λ e. absurd (cc); many = λ e. absurd (cc); clock_failed = λ e. absurd (cc); door_failed = λ e. absurd (cc) }
-  where
-    none_left : (a b : Option Tale) → Moves Ended into a b → (t : Tale) → b ≡ Some t → t.left ≡ []
-    none_left None b h t e = absurd (cc)
-    none_left (Some s) b h t e =
-        let same : h.0 ≡ t = some_same h.0 t (sym h.1 ∙ e) in
-        ap (λ (z : Tale). z.left) (sym same) ∙ (ap (λ (z : Tale). z.left) h.2.0 ∙ h.2.1)
 
 -- after a datagram the responder goes on, or the clock or the door has failed, or 64 have come
 pub rests_datagram : (n : ℕ) (into : List ℕ) (a b : Option Tale) (owed : Option ℕ) (door clock since : ℕ) (before why : Rest) → Moves (Datagram n) into a b → Counted a since → IsReplied owed before door clock → IsLater before (since + 1) why → Rests why b owed door clock

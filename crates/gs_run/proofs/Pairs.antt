@@ -28,7 +28,3 @@ within_potential weight clocks s v w hv hw = let most = pair_at_most (λ p. beyo
 pub skew_between_within : (clocks : List ℕ) (v w b : ℕ) → slice_index clocks w ≤ slice_index clocks v + b
     → slice_index clocks v ≤ slice_index clocks w + b → skew_between clocks v w ≤ b
 skew_between_within clocks v w b ahead behind = omega (arith, ahead, behind)
-
--- and the other way round
-pub within_skew_between : (clocks : List ℕ) (v w : ℕ) → slice_index clocks w ≤ slice_index clocks v + skew_between clocks v w
-within_skew_between clocks v w = omega arith

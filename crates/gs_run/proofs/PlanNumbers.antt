@@ -11,14 +11,14 @@ use Rattle.gs_topo.proofs.Distances.{both_ways, is_least}
 use Rattle.gs_topo.proofs.Tables.{at_most_diameter}
 use Rattle.gs_planfile.specs.declared.text.PlanText.{PlanText}
 use Rattle.gs_plan.specs.declared.edge.EdgeNumbers.{EdgeNumbers}
-use Rattle.gs_plan.specs.Accepted.{IsAccepted, IsFine}
+use Rattle.gs_plan.specs.Accepted.{IsAccepted}
 use Rattle.gs_plan.specs.Bounds.{global_in, lambda_in, level_in, greatest_spread_in}
 use Rattle.gs_plan.specs.Edges.{edge_given, edges_given, own_given}
 use Rattle.gs_plan.specs.Nodes.{link_in}
 use Rattle.gs_plan.specs.Numbers.{delta_in, iota_in, kappa_in, numbers_in, q_in, r_in, spread_in}
 use Rattle.gs_plan.specs.Plans.{graph_of, rate_of, text_of}
 use Rattle.gs_plan.proofs.Keeping.{each_below}
-use Rattle.gs_plan.proofs.Linking.{has_number, same_text, text_at}
+use Rattle.gs_plan.proofs.Linking.{fine_between, has_number, same_text, text_at}
 use Rattle.gs_plan.proofs.Telling.{plan_accepted, plan_is_graph}
 use Rattle.gs_plan.proofs.Weights.{least_in_plan}
 use Rattle.gs_run.specs.Accepted.{PlansHaveNumbers}
@@ -62,13 +62,6 @@ strong_is : (t : PlanText) (rate : Rate) → HasNumbers t.lo t.hi t.mu rate → 
 strong_is t rate numbers h = rw (numbers.hi, numbers.lo, numbers.mu) h
 
 -- ---- what holds of each edge holds of its two ends
-
-fine_between : (t : PlanText) (g : Graph) (v w : ℕ) → IsAccepted t g → Adjacent g v w → IsFine t (edge_given t (v, w))
-fine_between t g v w is next =
-    let found = has_number g v w next in
-    let at = text_at t g v w found.0 (own_given t) found.1 in
-    let here : get_or (edges_given t g) found.0 (own_given t) ≡ edge_given t (v, w) = at.1 in
-    subst (λ e. IsFine t e) here (is.edges found.0 (own_given t) at.0)
 
 in_age_between : (t : PlanText) (g : Graph) (v w : ℕ) → IsAccepted t g → Adjacent g v w
     → (edge_given t (v, w)).delay_max ≤ t.age

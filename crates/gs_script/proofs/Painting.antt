@@ -122,10 +122,6 @@ merged-more a b i k items more x y m ia kb xs ys value rises =
       second = rw lb.1 (rises (behind u y (drop (k + 1) b)) up.1);
     }
 
-zero_or : (t : ℕ) (xs : List Run) → value_or t [] (value_at xs t) ≡ value_at xs t
-unfolding value_or
-zero_or t xs = refl
-
 -- all, where nothing is left of one of both
 pub merged-all : (a b : List Run) (i k : ℕ) (items : List Run) → IsMerged a b i k items → (length a ≤ i) ⊎ (length b ≤ k)
     → ((t : ℕ) → value_at ((items ++ drop i a) ++ drop k b) t ≡ max (value_at a t) (value_at b t)) × Rise 0 ((items ++ drop i a) ++ drop k b)

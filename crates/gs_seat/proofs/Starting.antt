@@ -11,7 +11,7 @@ use Rattle.gs_calendar.specs.Calendar.{sent_at}
 use Rattle.gs_calendar.specs.Course.{Course}
 use Rattle.gs_calendar.specs.Events.{nodes_of}
 use Rattle.gs_calendar.specs.inside.Transits.{Has, AreInOrder}
-use Rattle.gs_calendar.proofs.Agree.{start_member}
+use Rattle.gs_run.proofs.Start.{start_member}
 use Rattle.gs_seat.specs.Alone.{alone, AreCarried}
 use Rattle.gs_seat.specs.Held.{IsHeld, AreSentIn}
 use Rattle.gs_seat.specs.Letters.{Letter, keys}

@@ -1,7 +1,7 @@
 -- The greatest values of lists.
-use Rattle.std.proofs.Common.{◌≡◌, ℕ, zero, suc, ◌+◌, ◌-◌, ◌*◌, ◌<◌, ◌≤◌, max, min, nat_lt, false, inl, inr, arith, ap, sym, refl, ◌∙◌, List, [], ◌∷◌, ◌++◌, All, length, map, get_or, slice_index, take}
+use Rattle.std.proofs.Common.{◌≡◌, ℕ, zero, suc, ◌+◌, ◌-◌, ◌*◌, ◌<◌, ◌≤◌, max, min, inl, inr, arith, ap, sym, refl, ◌∙◌, List, [], ◌∷◌, ◌++◌, All, length, map, get_or, slice_index, take}
 use Rattle.std.specs.List.{flat_map, range_with_len}
-use Rattle.std.proofs.lemmas.Bool.{cases_lt, le-ltb}
+use Rattle.std.proofs.lemmas.Bool.{cases_lt}
 use Rattle.std.proofs.lemmas.List.{get_or_default, take_more}
 use Rattle.std.proofs.lemmas.List.Elements.{All-head, All-push, All-tail, Contains-append_left, Contains-push}
 use Rattle.gs_topo.specs.Graph.{Graph}
@@ -136,13 +136,6 @@ ends_have_clocks g clocks is count = (
   λ k d h. let up = is.upright k d h in let below = is.below k d h in omega (arith, up, below, count),
   λ k d h. let below = is.below k d h in omega (arith, below, count),
 )
-
--- no row with a small global skew has a greater neighbour skew
-pub no_near_above : (g : Graph) (clocks : List ℕ) (m : ℕ) → IsTopology g → length clocks ≡ g.nodes → global_skew clocks ≤ m → nat_lt m (neighbour_skew g.edges clocks) ≡ false
-no_near_above g clocks m is count small =
-    let ends = ends_have_clocks g clocks is count in
-    let within = near_within g.edges clocks ends.0 ends.1 in
-    le-ltb m (neighbour_skew g.edges clocks) (omega (arith, within, small))
 
 -- the ends of one clock, and of one more
 pub ends_of_one : (clock : ℕ) → AreEnds (clock ∷ []) clock clock

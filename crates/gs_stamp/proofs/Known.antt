@@ -1,5 +1,5 @@
 -- What is known of a store by its slots.
-use Rattle.std.proofs.Common.{◌≡◌, ℕ, ◌+◌, ◌<◌, ◌≤◌, nat_lt, List, [], ◌∷◌, length, Option, Some, None, IsSome, option_map, Bool, true, false, refl, sym, ◌∙◌, ap, subst, arith}
+use Rattle.std.proofs.Common.{◌≡◌, ℕ, ◌+◌, ◌<◌, ◌≤◌, nat_lt, List, [], ◌∷◌, length, Option, Some, None, option_map, Bool, true, false, refl, sym, ◌∙◌, ap, subst, arith}
 use Rattle.std.proofs.lemmas.Bool.Decides.{nat_tests}
 use Rattle.byteorder.specs.Endian.{big_bytes}
 use Rattle.gs_stamp.specs.Disk.{put}
@@ -11,10 +11,6 @@ use Rattle.gs_stamp.specs.declared.slots.Slots.{Slots}
 use Rattle.gs_stamp.proofs.Ceilings.{IsSpare, spare_is}
 use Rattle.gs_stamp.proofs.Parts.{place_fits, put_over}
 
-pub in_is : (slot : Slot) (slots : Slots) (d : List ℕ) → Has slots d → ceiling_in slot d ≡ in_slot slot slots
-in_is First slots d has = has.first
-in_is Second slots d has = has.second
-
 pub top_is : (slots : Slots) (d : List ℕ) → Has slots d → ceiling_of d ≡ top_of slots
 top_is slots d has = let a = ap or_zero has.first in let b = ap or_zero has.second in omega (arith, a, b)
 
@@ -24,20 +20,11 @@ spare_same slots d spare has is = ap (λ (o : Option ℕ). spare_slot o (ceiling
 pub spare_known : (slots : Slots) (d : List ℕ) (spare : Slot) → Has slots d → spare ≡ spare_slot slots.first slots.second → IsSpare spare d
 spare_known slots d spare has is = subst (λ (k : Slot). IsSpare k d) (spare_same slots d spare has is) (spare_is d)
 
--- a slot that is not open is closed
-pub not_some : (o : Option ℕ) → (IsSome o → ⊥) → o ≡ None
-not_some None shut = refl
-not_some (Some n) shut = absurd (shut refl)
-
 -- the slots after one of them was filled
 pub has_with : (slot : Slot) (ceiling : ℕ) (slots new : Slots) (d c : List ℕ) → Has slots d → With slot (Some ceiling) d c
     → in_slot slot new ≡ Some ceiling → in_slot (other slot) new ≡ in_slot (other slot) slots → Has new c
 has_with First ceiling slots new d c has w own rest = record { first = w.here ∙ sym own; second = w.there ∙ has.second ∙ sym rest }
 has_with Second ceiling slots new d c has w own rest = record { first = w.there ∙ has.first ∙ sym rest; second = w.here ∙ sym own }
-
-pub top_with : (slot : Slot) (ceiling : ℕ) (slots new : Slots) → top_of slots ≤ ceiling → in_slot slot new ≡ Some ceiling → in_slot (other slot) new ≡ in_slot (other slot) slots → top_of new ≡ ceiling
-top_with First ceiling slots new high own rest = let a = ap or_zero own in let b = ap or_zero rest in omega (arith, a, b)
-top_with Second ceiling slots new high own rest = let a = ap or_zero own in let b = ap or_zero rest in omega (arith, a, b)
 
 -- functions that agree on what is told
 pub agree : (f h : List ℕ → List ℕ) (old : Option (List ℕ)) → ((b : List ℕ) → old ≡ Some b → f b ≡ h b) → option_map f old ≡ option_map h old

@@ -250,13 +250,6 @@ fault-at f at n bytes below size some inside allowed =
     ap (fault_from f at 0) is ∙ fault-front f at (get_or bytes at 0) (drop (at + 1) bytes) n w
     ∙ ap (λ (xs : List ℕ). fault_from f (at + n) 0 (drop n xs)) (sym is) ∙ ap (fault_from f (at + n) 0) (drop-drop n at bytes)
 
-pub front-at : {E : Type 0} (f : Format E) (at : ℕ) (bytes : List ℕ) (fault : TraceFault) → at < length bytes → front_fault f at (f.size (get_or bytes at 0)) (drop at bytes) ≡ Some fault
-    → fault_from f at 0 (drop at bytes) ≡ Some fault
-front-at f at bytes fault below e =
-    let is : drop at bytes ≡ get_or bytes at 0 ∷ drop (at + 1) bytes = drop_more bytes at 0 below in
-    let front : front_fault f at (f.size (get_or bytes at 0)) (get_or bytes at 0 ∷ drop (at + 1) bytes) ≡ Some fault = ap (front_fault f at (f.size (get_or bytes at 0))) (sym is) ∙ e in
-    ap (fault_from f at 0) is ∙ rw front refl
-
 -- the first event at fault is the one that is named
 pub fault-is_first : {E : Type 0} (f : Format E) (bytes_of : E → List ℕ) (Fits : E → Type 0) (h : IsFormat f bytes_of Fits) (place : ℕ) (bytes : List ℕ) (fault : TraceFault)
     → AreBytes bytes → (fault_from f place 0 bytes ≡ Some fault) ↔ IsFirst f bytes_of Fits place bytes fault

@@ -53,10 +53,6 @@ either_begins false snaps v w a b = a
 pub longer_begins : (snaps v w : List Snap) → StartsWith snaps v → StartsWith snaps w → StartsWith snaps (longer v w)
 longer_begins snaps v w a b = either_begins (nat_lt (length v) (length w)) snaps v w a b
 
-pub longer_nil : (w : List Snap) → longer [] w ≡ w
-longer_nil [] = refl
-longer_nil (x ∷ xs) = grind arith
-
 pub last_place_up : (n : ℕ) (xs : List Snap) → last_place 0 xs ≤ last_place n xs
 last_place_up n [] = zero-le
 last_place_up n (x ∷ xs) = le_refl _

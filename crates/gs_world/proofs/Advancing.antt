@@ -1,6 +1,6 @@
 -- What a quantum of a world asks and does.
-use Rattle.std.proofs.Common.{◌≡◌, ◌≢◌, ℕ, ◌+◌, ◌<◌, ◌≤◌, ◌^◌, ◌∙◌, ◌==◌, ◌||◌, All, arith, ap, sym, subst, refl, Bool, true, false, length, List, [], ◌∷◌, map, Option, Some, None, is_some, nat_le, nat_lt, slice_index, slice_index_or}
-use Rattle.std.specs.List.{position, position_or_len, zip}
+use Rattle.std.proofs.Common.{◌≡◌, ◌≢◌, ℕ, ◌+◌, ◌<◌, ◌≤◌, ◌^◌, ◌∙◌, ◌==◌, ◌||◌, All, arith, ap, sym, subst, refl, true, false, length, List, [], ◌∷◌, map, Option, Some, None, is_some, nat_le, nat_lt, slice_index, slice_index_or}
+use Rattle.std.specs.List.{position, zip}
 use Rattle.std.specs.Vec.{with_items}
 use Rattle.std.proofs.lemmas.List.{get_or-map, get_or_default, length-map, with_items_is}
 use Rattle.std.proofs.lemmas.List.Elements.{All-map}
@@ -17,6 +17,7 @@ use Rattle.gs_units.specs.declared.params.NodeParams.{NodeParams}
 use Rattle.gs_core.specs.Node.{clock_of}
 use Rattle.gs_run.specs.Fast.{fast_in, is_fast}
 use Rattle.gs_run.specs.Reach.{IsReachable}
+use Rattle.gs_run.proofs.Current.{position-map}
 use Rattle.gs_run.proofs.PlanNumbers.{plan_has_numbers}
 use Rattle.gs_run.proofs.Reaching.{IsKnown, reachable_is_known, step_is_reachable}
 use Rattle.gs_world.proofs.Reading.{clocks_are}
@@ -36,18 +37,6 @@ use Rattle.gs_world.specs.declared.world.World.TheInside.{Inside}
 use Rattle.gs_run.proofs.Keeping.{quantum_is}
 use Rattle.gs_world.proofs.Placing.{count_inside, known_inside, member_at, member_read, seat_at, step_inside}
 use Rattle.gs_run.proofs.Refusals.{MayAdvance, may_advance}
-
--- ---- places in lists
-
-place_or_len-map : {X Y : Type 0} (p : Y → Bool) (f : X → Y) (xs : List X)
-    → position_or_len p (map f xs) ≡ position_or_len (λ x. p (f x)) xs
-place_or_len-map p f [] = refl
-place_or_len-map p f (x ∷ xs) = rw (place_or_len-map p f xs) refl
-
--- the first that passes among images
-pub position-map : {X Y : Type 0} (p : Y → Bool) (f : X → Y) (xs : List X)
-    → position p (map f xs) ≡ position (λ x. p (f x)) xs
-position-map p f xs = rw (place_or_len-map p f xs, length-map xs f) refl
 
 -- a world has no more nodes than a plan
 pub few_nodes : (a : Inside) → (net_of a.plan.now).nodes ≤ 512
@@ -108,7 +97,7 @@ pub due_read : (a : Inside) (t : PlanText) (seats : List Seat) (o : Option ℕ) 
     → o ≡ position (λ s. nat_le (s.ticked_at + t.tick) a.quanta) seats
     → position (is_due_at (net_of a.plan.now) a.quanta) (world_in a).members ≡ o
 due_read a t seats o text same is =
-    position-map (is_due_at (net_of a.plan.now) a.quanta) member_of a.members.items
+    position-map member_of (is_due_at (net_of a.plan.now) a.quanta) a.members.items
     ∙ sym (is ∙ ap (λ (x : PlanText). position (λ s. nat_le (s.ticked_at + x.tick) a.quanta) seats) text
     ∙ ap (position (λ s. nat_le (s.ticked_at + (text_of a.plan.now).tick) a.quanta)) same)
 
@@ -117,7 +106,7 @@ pub stale_read : (a : Inside) (t : PlanText) (seats : List Seat) (o : Option ℕ
     → o ≡ position (λ s. is_some (position (λ sent. nat_le (sent + t.age) a.quanta) s.heard.items)) seats
     → position (λ m. is_some (stale_place (net_of a.plan.now) a.quanta m)) (world_in a).members ≡ o
 stale_read a t seats o text same is =
-    position-map (λ m. is_some (stale_place (net_of a.plan.now) a.quanta m)) member_of a.members.items
+    position-map member_of (λ m. is_some (stale_place (net_of a.plan.now) a.quanta m)) a.members.items
     ∙ sym
     (is ∙ ap (λ (x : PlanText). position (λ s. is_some (position (λ sent. nat_le (sent + x.age) a.quanta) s.heard.items)) seats) text
     ∙ ap

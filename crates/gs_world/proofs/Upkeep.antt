@@ -32,9 +32,9 @@ pub none_due : (net : Net) (w : World) (due : ℕ) → w.quanta < due → IsNone
 none_due net w due early far =
     ap (at_node TickDue) (position_nowhere (is_due_at net w.quanta) w.members nobody (λ k h. later w.quanta due (member w k).ticked_at net.tick early (far k nobody h)))
 
-no_place : (net : Net) (quanta stale : ℕ) (m : Member) → quanta < stale → All (λ sent. stale ≤ sent + net.age) m.heard
+no_stale_place : (net : Net) (quanta stale : ℕ) (m : Member) → quanta < stale → All (λ sent. stale ≤ sent + net.age) m.heard
     → is_some (stale_place net quanta m) ≡ false
-no_place net quanta stale m early far =
+no_stale_place net quanta stale m early far =
     let none : stale_place net quanta m ≡ None =
     position_nowhere (is_stale net quanta) m.heard 0 (λ i h. later quanta stale (slice_index m.heard i) net.age early (far i 0 h)) in
     rw none refl
@@ -42,7 +42,7 @@ no_place net quanta stale m early far =
 pub none_stale_yet : (net : Net) (w : World) (stale : ℕ) → w.quanta < stale → IsNoneStaleBefore net w stale
     → stale_in net w ≡ None
 none_stale_yet net w stale early far =
-    ap (stale_of net w) (position_nowhere (λ m. is_some (stale_place net w.quanta m)) w.members nobody (λ k h. no_place net w.quanta stale (member w k) early (far k nobody h)))
+    ap (stale_of net w) (position_nowhere (λ m. is_some (stale_place net w.quanta m)) w.members nobody (λ k h. no_stale_place net w.quanta stale (member w k) early (far k nobody h)))
 
 -- ---- deadlines
 
