@@ -7,6 +7,7 @@ use Rattle.std.specs.Prelude.{slice_index}
 use Rattle.gs_topo.specs.Graph.{Graph}
 use Rattle.gs_core.specs.declared.event.Event.{Event}
 use Rattle.gs_core.specs.declared.event.Event.TheVariants.{Quantum, Tick, Deliver}
+use Rattle.gs_core.specs.inside.Events.{IsNoQuantum}
 use Rattle.gs_level.specs.Tallies.{tally_of}
 use Rattle.gs_level.specs.declared.tally.Tally.{Tally}
 use Rattle.gs_run.specs.Fast.{fast_in}
@@ -17,7 +18,7 @@ use Rattle.gs_run.specs.World.{World, Sent, member, clocks_in, deliver, effect, 
 use Rattle.gs_run.specs.declared.refused.Refused.{Refused}
 use Rattle.gs_run.proofs.Keeping.{advanced_members}
 use Rattle.gs_run.proofs.Theorems.{clock_count}
-use Rattle.gs_audit.specs.inside.UnderWay.{IsUnderWay, IsNoQuantum}
+use Rattle.gs_audit.specs.inside.UnderWay.{IsUnderWay}
 
 -- ---- the start
 

@@ -3,6 +3,7 @@ use Rattle.std.proofs.Common.{◌≡◌, ℕ, ◌+◌, ◌^◌, ◌≤◌, ap, s
 use Rattle.std.proofs.Common.{Some, None}
 use Rattle.gs_core.specs.declared.event.Event.{Event}
 use Rattle.gs_core.specs.declared.event.Event.TheVariants.{Quantum}
+use Rattle.gs_core.specs.inside.Events.{IsNoQuantum}
 use Rattle.gs_plan.specs.Plans.{graph_of}
 use Rattle.gs_plan.specs.declared.plan.Plan.{Plan}
 use Rattle.gs_level.specs.Tallies.{tally_of}
@@ -13,7 +14,7 @@ use Rattle.gs_run.specs.Nets.{net_of}
 use Rattle.gs_run.specs.Why.{why}
 use Rattle.gs_run.specs.World.{World, clocks_in, effect}
 use Rattle.gs_run.specs.declared.refused.Refused.{Refused}
-use Rattle.gs_audit.specs.inside.UnderWay.{IsUnderWay, IsNoQuantum}
+use Rattle.gs_audit.specs.inside.UnderWay.{IsUnderWay}
 use Rattle.gs_audit.specs.inside.Running.{IsAuditing}
 use Rattle.gs_audit.specs.Verdicts.{refusal_at, world_at}
 use Rattle.gs_audit.specs.declared.auditing.Auditing.{Auditing}

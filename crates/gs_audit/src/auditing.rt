@@ -1,13 +1,13 @@
 ghost use Rattle.std.specs.Prelude.{◌≡◌, ◌≢◌, ◌<◌, ◌^◌, [], ◌∷◌, length, List, IfErr, IfOk, OnOk, Some};
 ghost use Rattle.gs_core.specs.declared.event.Event.{Event};
 ghost use Rattle.gs_core.specs.declared.event.Event.TheVariants as event;
+ghost use Rattle.gs_core.specs.inside.Events.{IsNoQuantum};
 ghost use Rattle.gs_plan.specs.Plans.{graph_of};
 ghost use Rattle.gs_plan.specs.declared.plan.Plan.{Plan};
 ghost use Rattle.gs_trace.specs.Scans.{event_told};
 ghost use Rattle.gs_trace.specs.Starts.{FitsWorld};
 ghost use Rattle.gs_trace.specs.declared.start.WorldStart.{WorldStart};
 ghost use Rattle.gs_audit.specs.Verdicts.{refusal_at, report_at};
-ghost use Rattle.gs_audit.specs.inside.UnderWay.{IsNoQuantum};
 
 use gs_core::Event;
 use gs_level::{Report, Tally};

@@ -1,6 +1,7 @@
 pub mod Parts
 pub mod Counting
 pub mod OneSeat
+pub mod NoQuanta
 pub mod Agree
 pub mod Arrivals
 pub mod Hearing

@@ -1,6 +1,6 @@
 -- The first breach of a script's events is the one that its calendar has: the least quantum, then the least receiver, then
 -- the least sender.
-use Rattle.std.proofs.Common.{◌≡◌, ℕ, zero, suc, ◌+◌, ◌<◌, ◌≤◌, ◌^◌, arith, ap, sym, refl, ◌∙◌, List, [], ◌∷◌, ◌++◌, length, map, filter, Option, Some, None, is_some, Bool, not, nat_le, get_or, slice_index, position}
+use Rattle.std.proofs.Common.{◌≡◌, ℕ, zero, suc, ◌+◌, ◌<◌, ◌≤◌, ◌^◌, arith, ap, sym, refl, ◌∙◌, List, [], ◌∷◌, ◌++◌, length, map, Option, Some, None, is_some, Bool, not, nat_le, get_or, slice_index, position}
 use Rattle.std.specs.List.{prefix_len, AllByRecursion}
 use Rattle.std.specs.Option.{option_or}
 use Rattle.std.proofs.lemmas.List.FromFn.{length-range_with_len, get_or-range_with_len}
@@ -8,6 +8,7 @@ use Rattle.std.proofs.lemmas.List.Quantifiers.{position-Some}
 use Rattle.gs_units.proofs.FirstFault.{last_is}
 use Rattle.gs_core.specs.declared.event.Event.{Event}
 use Rattle.gs_core.specs.declared.event.Event.TheVariants.{Quantum, Tick, Deliver}
+use Rattle.gs_core.specs.inside.Events.{IsNoQuantum}
 use Rattle.gs_run.specs.Net.{Net, neighbours, neighbour}
 use Rattle.gs_run.specs.World.{World, nobody, member, effect}
 use Rattle.gs_run.specs.Run.{run}
@@ -15,12 +16,12 @@ use Rattle.gs_run.specs.Why.{is_stale, stale_place, stale_at as stale_over, stal
 use Rattle.gs_run.specs.Accepted.{AreNumbers}
 use Rattle.gs_calendar.specs.Breach.{Breach, breach_of, breach_in, first_breach}
 use Rattle.gs_calendar.specs.Course.{Course}
-use Rattle.gs_calendar.specs.Calendar.{Newest, stale_at, ticks}
+use Rattle.gs_calendar.specs.Calendar.{Newest, stale_at}
 use Rattle.gs_calendar.specs.Events.{nodes_of, incs_at, ticks_at, quantum_at, events_upto}
 use Rattle.gs_calendar.specs.Scripts.{start_of, breach_of_course}
 use Rattle.gs_calendar.specs.Stale.{first_stale, breach_over, breach_among, breach_at, breach_upto}
-use Rattle.gs_calendar.proofs.OneSeat.{IsDelivery, all_deliveries, are_deliveries}
-use Rattle.gs_calendar.proofs.Parts.{each_append, each_map, each_any, each_weaker}
+use Rattle.gs_calendar.proofs.NoQuanta.{rest_is_no_quantum}
+use Rattle.gs_calendar.proofs.OneSeat.{all_deliveries}
 use Rattle.gs_calendar.proofs.Agree.{IsCalendar, world_at, run_agrees, start_is_calendar}
 use Rattle.gs_calendar.proofs.Hearing.{IsHeard, run_hears, start_is_heard}
 use Rattle.gs_calendar.proofs.Arrivals.{place_is_own}
@@ -90,30 +91,16 @@ breach_more net w [] ys = refl
 breach_more net w (e ∷ xs) ys = rw (breach_more net (effect net w e) xs ys) (sym (or_assoc (breach_in net w e) _ _))
 
 -- only a quantum is a breach
-abbrev IsNoQuantum : Event → Type 0
-IsNoQuantum (Quantum incs) = ⊥
-IsNoQuantum (Tick v) = Unit {0}
-IsNoQuantum (Deliver from to seq) = Unit {0}
-
 no_breach : (net : Net) (w : World) (es : List Event) → AllByRecursion IsNoQuantum es → first_breach net w es ≡ None
 no_breach net w [] h = refl
 no_breach net w (Quantum incs ∷ es) h = absurd h.0
 no_breach net w (Tick v ∷ es) h = no_breach net (effect net w (Tick v)) es h.1
 no_breach net w (Deliver from to seq ∷ es) h = no_breach net (effect net w (Deliver from to seq)) es h.1
 
-delivery_is_no_quantum : (e : Event) → IsDelivery e → IsNoQuantum e
-delivery_is_no_quantum (Quantum incs) h = h
-delivery_is_no_quantum (Tick v) h = tt
-delivery_is_no_quantum (Deliver from to seq) h = tt
-
 quantum_breach : (net : Net) (c : Course) (t : ℕ) (w : World) → first_breach net w (quantum_at net c t) ≡ breach_in net w (Quantum (incs_at net c t))
 quantum_breach net c t w =
     let rest : List Event = all_deliveries net c t ++ ticks_at net c t in
-    let ticking : List ℕ = filter (λ v. ticks net c v t) (nodes_of net) in
-    let none : AllByRecursion IsNoQuantum rest = each_append IsNoQuantum (all_deliveries net c t) (ticks_at net c t)
-    (each_weaker IsDelivery IsNoQuantum delivery_is_no_quantum (all_deliveries net c t) (are_deliveries net c t (nodes_of net)))
-    (each_map IsNoQuantum Tick ticking (each_any _ (λ v. tt) ticking)) in
-    ap (option_or (breach_in net w (Quantum (incs_at net c t)))) (no_breach net (effect net w (Quantum (incs_at net c t))) rest none)
+    ap (option_or (breach_in net w (Quantum (incs_at net c t)))) (no_breach net (effect net w (Quantum (incs_at net c t))) rest (rest_is_no_quantum net c t))
     ∙ last_is (breach_in net w (Quantum (incs_at net c t)))
 
 pub breach_is : (net : Net) (c : Course) (w : World) → AreNumbers net → IsCourse net c → IsCalendar net c 0 w → IsHeard net c 0 w → (t : ℕ) → t ≤ 2 ^ 24 → first_breach net w (events_upto net c t) ≡ breach_upto net c t

@@ -102,7 +102,7 @@ impl<'p> Feed<'p> {
         })
     }
 
-    /// Takes the first event that is left.
+    /// Takes the first event that is left, if there is one. Where memory is refused nothing changes.
     pub fn next(&mut self, alloc: Global) -> Result<Option<Event>, AllocError>
         ensures event { IfOk result (λ o. IfSome o (λ e. self.old ≡ e ∷ self.new)) }
         ensures end { IfOk result (λ o. IfNone o ((self.old ≡ []) × (self.new ≡ []))) }

@@ -1,3 +1,4 @@
 -- What private functions and proofs speak of: no public contract rests on it.
 pub mod Seen
 pub mod Quiet
+pub mod Events

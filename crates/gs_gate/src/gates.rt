@@ -8,10 +8,12 @@ use std::time::{Clock, Duration};
 /// A play calls `enter` and `leave` alone, both from the thread that runs the piece; `rest` is for the
 /// timer of a node that runs.
 pub trait Gate: Sync {
-    /// A worker begins with a piece: called once for each piece and window, before it runs.
+    /// A worker begins with a piece: called once for each piece and window, before its nodes go through the
+    /// window.
     fn enter(&self, piece: u32);
 
-    /// A worker is done with a piece: called once for each piece and window, after it ran.
+    /// A worker is done with a piece: called once for each piece and window, after its nodes went through
+    /// the window.
     fn leave(&self, piece: u32);
 
     /// A timer has nothing to do for so many units, each of a nanosecond.

@@ -1,7 +1,7 @@
 use gs_gate::Gate;
 use std::sync::atomic::{AtomicU64, Ordering};
 
-/// A gate that counts the pieces of work that were begun, and holds nobody.
+/// A gate that counts the calls of `enter`, and holds nobody.
 #[derive(Drop)]
 pub struct CountGate {
     entered: AtomicU64,

@@ -28,7 +28,7 @@ impl PairGate {
         }
     }
 
-    /// How often both pieces were in.
+    /// How often piece 0 met piece 1, both inside.
     pub fn met(&self) -> u64 {
         self.met.load(Ordering::SeqCst)
     }

@@ -3,7 +3,7 @@
 #![tactic(auto)]
 
 pub use inputs::{Inputs, accepted, read_inputs, read_plan};
-pub use plans::plan_in;
+pub use plans::{node_refusal, plan_in};
 pub use source::{Kind, Source, read_file, read_source};
 
 mod inputs;

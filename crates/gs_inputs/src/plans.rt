@@ -6,15 +6,16 @@ ghost use Rattle.gs_planfile.specs.Texts.{IsText};
 ghost use Rattle.gs_plan.specs.Faults.{plan_fault};
 ghost use Rattle.gs_plan.specs.Plans.{text_of};
 ghost use Rattle.gs_cli.specs.Words.{number_within};
-ghost use Rattle.gs_inputs.specs.Plans.{accepted, base_from, parsed, plan_in, refused, text_from};
+ghost use Rattle.gs_inputs.specs.Plans.{accepted, base_from, node_refused, parsed, plan_in, refused, text_from};
 ghost use Rattle.gs_inputs.specs.inside.SourceSeen.{source_in};
+ghost use Rattle.gs_cli.specs.inside.Reply.{answer_in};
 ghost use Rattle.gs_cli.specs.inside.Stops.{StopsAt, StopsWith};
 
 use crate::source::Source;
-use gs_cli::{Status, Stop, number_within};
+use gs_cli::{Reply, Status, Stop, number_within};
 use gs_plan::{Plan, PlanFault};
 use gs_planfile::{PlanFileFault, PlanText};
-use std::alloc::Global;
+use std::alloc::{AllocError, Global};
 
 /// A plan that is refused for this.
 fn refusal(alloc: Global, why: &str) -> Stop
@@ -87,4 +88,17 @@ pub fn plan_in(alloc: Global, source: &Source<'_>) -> Result<Plan, Stop>
 {
     let text = text_from(alloc, source)?;
     checked(alloc, &text)
+}
+
+/// The line of a number that no node of the plan has.
+pub fn node_refusal(alloc: Global, node: u32) -> Result<Reply, AllocError>
+    ensures { IfOk result (λ reply. answer_in reply ≡ node_refused node) }
+{
+    let number = node.to_string(alloc)?;
+    Reply::line_of(
+        alloc,
+        Status::InputRefused,
+        "node refused: ",
+        number.as_str(),
+    )
 }

@@ -2,7 +2,8 @@ ghost use Rattle.std.specs.Prelude.{◌≡◌, List};
 
 use std::marker::Model;
 
-/// A potential, in clock units, with the first pair of nodes that has it: `w` is ahead of `v`.
+/// A potential, in clock units, with the first pair of nodes that has it: `w` is ahead of `v`, or both are 0
+/// where it is 0.
 #[derive(Clone, Copy, Debug, PartialEq, Eq)]
 pub struct Peak {
     pub value: u64,

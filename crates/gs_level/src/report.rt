@@ -22,9 +22,9 @@ pub struct Report {
     pub near_at: u32,
     /// The first edge that had it then, where there is an edge.
     pub near_edge: Option<(u32, u32)>,
-    /// The potentials at the end of the play.
+    /// The potentials of the plan's levels at the end of the play.
     pub levels: Peaks,
-    /// The pairs of a node and a quantum that it took in fast mode.
+    /// How many nodes took a quantum in fast mode, summed over all quanta.
     pub fast: u64,
 }
 

@@ -30,8 +30,8 @@ impl Lookout {
         }
     }
 
-    /// Takes in the clocks at the end of one more quantum, in which no clock grew by more than `by` beyond
-    /// the growth of another.
+    /// Takes in the clocks at the end of one more quantum, in which no clock grew by more than `by` clock
+    /// units beyond the growth of another.
     pub fn add(&mut self, plan: &Plan, clocks: &[u64], by: u64)
         requires count { length clocks.now ≡ (graph_of plan.now).nodes }
         requires room { rows_in self.old.tally < 2 ^ 32 - 1 }

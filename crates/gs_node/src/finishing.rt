@@ -12,13 +12,14 @@ ghost use Rattle.gs_node.specs.inside.Runs.{HasReasons, HasRun, failed_in, leavi
 
 use crate::choosing::{Signs, choose};
 use crate::ends::{End, first_torn};
+use crate::joins::Met;
 use crate::running::Ran;
 use crate::serving::Served;
 use gs_board::{Board, ReserveStop, Seat};
 use gs_callers::{Refusal, TimerStop};
 use gs_clock::Clock;
 use gs_net::{Door, Inlet, Outlet};
-use gs_respond::Rest;
+use gs_respond::{Responded, Rest};
 
 /// Closes the board, compares each seat with it, and chooses the end.
 pub(crate) fn finish<C: Clock, V: Clock, I: Inlet, O: Outlet, D: Door>(
@@ -43,31 +44,22 @@ pub(crate) fn finish<C: Clock, V: Clock, I: Inlet, O: Outlet, D: Door>(
         others,
         inlets,
         outlet,
-        door,
-        view_clock,
+        responded,
         publisher,
-        dropped,
         refused,
         stop,
-        rest,
-        fault,
-        filled,
-        short,
+        met,
     } = ran;
+    let Responded {
+        door,
+        view_clock,
+        rest,
+    } = responded;
     let mut board = board;
     let mut seats = seats;
     board.close();
     gather(&mut seats, timer, others);
-    let signs = signs_of(
-        &board,
-        seats.as_slice(),
-        refused,
-        stop,
-        rest,
-        fault,
-        filled,
-        short,
-    );
+    let signs = signs_of(&board, seats.as_slice(), refused, stop, rest, met);
     Served {
         end: choose(&signs),
         board,
@@ -77,7 +69,7 @@ pub(crate) fn finish<C: Clock, V: Clock, I: Inlet, O: Outlet, D: Door>(
         door,
         view_clock,
         publisher,
-        dropped,
+        dropped: met.dropped,
     }
 }
 
@@ -99,9 +91,7 @@ fn signs_of<C: Clock>(
     refused: bool,
     stop: Result<(), TimerStop>,
     rest: Rest,
-    fault: bool,
-    filled: bool,
-    short: bool,
+    met: Met,
 ) -> Signs
     ensures torn { MatchOption result.torn
         (All (IsWhole (ledger_in board.now)) seats.now) (IsFirstTorn (ledger_in board.now) seats.now) }
@@ -110,18 +100,18 @@ fn signs_of<C: Clock>(
     ensures view { result.view_failed ≡ true → rest ≡ Rest.Clock }
     ensures length { result.length ≡ length (ledger_in board.now).journal }
     ensures link { result.link_failed ≡ true
-        → (fault ≡ true) ⊎ ((rest ≡ Rest.Door) ⊎ (stop ≡ Err TimerStop.Send)) }
-    ensures short { result.short ≡ false → (short ≡ false) × (is_at_rest rest ≡ true) × IsOk stop }
+        → (met.fault ≡ true) ⊎ ((rest ≡ Rest.Door) ⊎ (stop ≡ Err TimerStop.Send)) }
+    ensures short { result.short ≡ false → (met.short ≡ false) × (is_at_rest rest ≡ true) × IsOk stop }
 {
     Signs {
         torn: first_torn(board, seats),
         no_thread: refused,
         halt: board.halt(),
         view_failed: rest == Rest::Clock,
-        filled: filled || is_filled(stop),
+        filled: met.filled || is_filled(stop),
         length: board.journal().len() as u64,
-        link_failed: fault || rest == Rest::Door || is_send(stop),
-        short: short || !rest.is_at_rest() || stop.is_err(),
+        link_failed: met.fault || rest == Rest::Door || is_send(stop),
+        short: met.short || !rest.is_at_rest() || stop.is_err(),
     }
 }
 

@@ -8,7 +8,7 @@ ghost use Rattle.gs_node.specs.inside.Begun.{AreReady, of_task};
 ghost use Rattle.gs_node.specs.inside.Runs.{HasReasons, HasRun, begun_by, failed_in, leavings_of, reasons_of};
 
 use crate::hands::{Course, Hands, Places, Room};
-use crate::joins::join_all;
+use crate::joins::{Met, join_all};
 use crate::starts::{Begun, start_all, start_one};
 use gs_board::{Seat, Shared};
 use gs_callers::{Listening, TimerStop, run_turns};
@@ -30,21 +30,15 @@ pub(crate) struct Ran<C: Clock, V: Clock, I: Inlet, O: Outlet, D: Door> {
     pub others: Vec<Seat<C>>,
     pub inlets: Vec<I>,
     pub outlet: O,
-    pub door: D,
-    pub view_clock: V,
+    /// What the responder hands back.
+    pub responded: Responded<V, D>,
     pub publisher: Option<Publisher>,
-    pub dropped: u64,
     /// A start was refused.
     pub refused: bool,
-    /// Why the timer stopped, and why the responder did.
+    /// Why the timer stopped.
     pub stop: Result<(), TimerStop>,
-    pub rest: Rest,
-    /// An inlet failed.
-    pub fault: bool,
-    /// A receiver found the journal full.
-    pub filled: bool,
-    /// A receiver stopped for a reason that a run which was done does not have.
-    pub short: bool,
+    /// What the receivers met.
+    pub met: Met,
 }
 
 /// Runs the threads over a board that is shared while they run.
@@ -174,16 +168,20 @@ fn untouched<C: Clock, V: Clock, I: Inlet, O: Outlet, D: Door>(
         others: seats,
         inlets,
         outlet,
-        door,
-        view_clock,
+        responded: Responded {
+            door,
+            view_clock,
+            rest: Rest::Open,
+        },
         publisher: None,
-        dropped: 0,
         refused: false,
         stop: Err(TimerStop::Memory),
-        rest: Rest::Open,
-        fault: false,
-        filled: false,
-        short: true,
+        met: Met {
+            fault: false,
+            filled: false,
+            short: true,
+            dropped: 0,
+        },
     }
 }
 
@@ -231,11 +229,7 @@ fn run_all<
         door,
         view_clock,
     } = hands;
-    let Room {
-        seats: mut others,
-        inlets: mut back,
-    } = room;
-    let (mut begun, mut publisher) = (begun, publisher);
+    let (mut room, mut begun, mut publisher) = (room, begun, publisher);
     let mut refused = start_all(
         rt, scope, board, params, seats, inlets, &mut begun, &mut *crew,
     );
@@ -253,27 +247,18 @@ fn run_all<
         course,
     );
     close(rt, board);
-    let met = join_all(rt, params, begun, &mut others, &mut back);
-    let Responded {
-        door,
-        view_clock,
-        rest,
-    } = wait_for_responder(rt, asked).end();
+    let met = join_all(rt, params, begun, &mut room.seats, &mut room.inlets);
+    let responded = wait_for_responder(rt, asked).end();
     Ran {
         timer,
-        others,
-        inlets: back,
+        others: room.seats,
+        inlets: room.inlets,
         outlet,
-        door,
-        view_clock,
+        responded,
         publisher: Some(publisher),
-        dropped: met.dropped,
         refused,
         stop,
-        rest,
-        fault: met.fault,
-        filled: met.filled,
-        short: met.short,
+        met,
     }
 }
 

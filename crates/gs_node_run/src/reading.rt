@@ -3,7 +3,6 @@ ghost use Rattle.gs_units.specs.Params.{AreValid};
 ghost use Rattle.gs_plan.specs.Plans.{graph_of};
 ghost use Rattle.gs_plan.specs.declared.plan.Plan.{Plan};
 ghost use Rattle.gs_cli.specs.inside.Stops.{StopsWith};
-ghost use Rattle.gs_inputs.specs.Plans.{node_refused};
 ghost use Rattle.gs_inputs.specs.Sources.{seen};
 ghost use Rattle.gs_node_run.specs.Nodes.{IsRefused, Names, names_no_file, params_of};
 ghost use Rattle.gs_node_run.specs.Words.{Order, order_of};
@@ -12,7 +11,7 @@ ghost use Rattle.gs_node_run.specs.inside.Jobs.{IsJobOf};
 use crate::addresses::{Addresses, addresses_of};
 use crate::words::order_of;
 use gs_cli::{Reply, Status, Stop};
-use gs_inputs::read_plan;
+use gs_inputs::{node_refusal, read_plan};
 use gs_io::Files;
 use gs_plan::Plan;
 use gs_units::NodeParams;
@@ -46,7 +45,7 @@ pub fn read_job<F: Files>(alloc: Global, files: &mut F, words: &[String]) -> Res
     };
     let plan = read_plan(alloc, files, order.plan)?;
     if order.node >= plan.topo().nodes() {
-        return Err(node_refusal(alloc, order.node));
+        return Err(Stop::Refused(node_refusal(alloc, order.node)?));
     }
     Ok(job_of(alloc, &plan, order.node, order.ticks)?)
 }
@@ -72,19 +71,4 @@ fn pace(plan: &Plan) -> u64 {
     let tick = u64::from(plan.text().tick);
     let lo = u64::from(plan.text().lo);
     (tick.saturating_mul(lo) / 2).max(1)
-}
-
-/// A number that no node of the plan has.
-fn node_refusal(alloc: Global, node: u32) -> Stop
-    ensures { StopsWith (λ answer. answer ≡ node_refused node) result }
-{
-    match node.to_string(alloc) {
-        Ok(number) => Stop::refused(
-            alloc,
-            Status::InputRefused,
-            "node refused: ",
-            number.as_str(),
-        ),
-        Err(AllocError) => Stop::OutOfMemory,
-    }
 }

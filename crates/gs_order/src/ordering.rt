@@ -15,9 +15,10 @@ use gs_rows::Rows;
 use gs_script::Script;
 use std::alloc::{AllocError, Global};
 
-/// Plays a script on its plan from equal clocks, with an event every `every` quanta: event `i`, from 0 on, begins
-/// at the end of quantum `(i + 1) * every` at node `i` modulo the count of nodes. It finishes at the end of the
-/// first later quantum at which [`finish`] succeeds, if there is one. It stops as `play` does.
+/// Plays a script on its plan from clocks that are all 0, with an event every `every` quanta: event `i`, from 0
+/// on, begins at the end of quantum `(i + 1) * every` at node `i` modulo the count of nodes. It finishes at the
+/// end of the first later quantum at which [`finish`] succeeds, if there is one. It stops at the script's first
+/// breach.
 ///
 /// Where an event has finished by the time that another begins, at whatever node, its stamp is the lesser: see
 /// [`commit_waits_order_events`].

@@ -18,8 +18,8 @@ pub fn begin(clock: u64) -> Pending
 }
 
 /// Finishes an event at this clock of its node, and gives its stamp, both in clock units. Before its commit wait
-/// of `G(0)` is over it hands the event back. Once it has finished, no node anywhere has a clock as low as its
-/// stamp: see [`commit_waits_order_events`].
+/// of `G(0)` is over it hands the event back. In a run that the plan allows, from equal clocks, no node has a
+/// clock as low as its stamp from then on: see [`commit_waits_order_events`].
 ///
 /// [`commit_waits_order_events`]: crate::commit_waits_order_events
 pub fn finish(plan: &Plan, pending: Pending, clock: u64) -> Result<u64, Pending>

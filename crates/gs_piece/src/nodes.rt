@@ -244,7 +244,7 @@ impl Nodes {
         self.look(i);
     }
 
-    /// The least quantum in which any of what the nodes heard last of their neighbours was sent.
+    /// A quantum that is no later than any in which what the nodes heard last of a neighbour was sent.
     pub(crate) fn oldest(&self) -> u32
         ensures { (net : Net) (c : Course) (by : ℕ → ℕ → ℕ) (a b m t v i : ℕ) → AreNodes net c by a b m (λ j. t) self.now
             → a ≤ v → v < b → i < length (neighbours net v) → result ≤ (heard_at net c (neighbour net v i) v t).quantum }

@@ -103,7 +103,7 @@ impl Piece {
         self.nodes.take_turns(plan, script, t);
     }
 
-    /// The clocks at the end of quantum `j + 1` of the window, in clock units.
+    /// The clocks of its nodes at the end of quantum `j + 1` of the window, in clock units.
     pub fn row(&self, j: u32) -> &[u64]
         requires { (net : Net) × (c : Course) × (a : ℕ) × (b : ℕ) × (m : ℕ) × (n : ℕ) × (j < n) × HasRows net c a b m n self.now }
         ensures count { (net : Net) (c : Course) (a b m n : ℕ) → j < n → HasRows net c a b m n self.now
@@ -173,7 +173,7 @@ impl Piece {
         self.nodes.take_over(plan, script, from, to, sent)
     }
 
-    /// Begins the next window, once all nodes have taken over what their neighbours sent in this one.
+    /// Begins the next window, once all its nodes have taken over what their neighbours sent in this one.
     pub fn end_window(&mut self)
         requires { (net : Net) × (c : Course) × (by : ℕ → ℕ → ℕ) × (a : ℕ) × (b : ℕ) × (m : ℕ) × (t : ℕ)
             × AllHanded net by a b t × IsPiece net c by a b m t self.old }
@@ -183,7 +183,7 @@ impl Piece {
         self.nodes.end_window();
     }
 
-    /// The least quantum in which any of what its nodes heard last of their neighbours was sent.
+    /// A quantum that is no later than any in which what its nodes heard last of a neighbour was sent.
     pub fn oldest(&self) -> u32
         ensures { (net : Net) (c : Course) (by : ℕ → ℕ → ℕ) (a b m t v i : ℕ) → IsPiece net c by a b m t self.now
             → a ≤ v → v < b → i < length (neighbours net v) → result ≤ (heard_at net c (neighbour net v i) v t).quantum }

@@ -1,24 +1,24 @@
 -- The graph of a text without a fault is connected, as that of each topology.
 use Rattle.std.proofs.Common.{◌≡◌, ℕ, zero, suc, ◌+◌, ◌<◌, ◌≤◌, ◌||◌, ◌==◌, ◌++◌, arith, refl, inl, inr, cond, if◌then◌else◌, not, nat_lt, Bool, true, false, List, [], length, Option, Some, None, is_some, option_map}
+use Rattle.std.specs.List.{find, range_with_len}
 use Rattle.std.specs.Option.{option_or}
 use Rattle.std.proofs.lemmas.Bool.{cases_lt, eqb-false, ltb-false}
 use Rattle.gs_units.proofs.FirstFault.{none_of}
 use Rattle.gs_topo.specs.declared.fault.TopoFault.TheVariants.{Count, Edges, Split}
 use Rattle.gs_topo.specs.Faults.{edges_fault, fault_of, split_fault}
 use Rattle.gs_topo.specs.Graph.{Graph, Adjacent, graph_of}
-use Rattle.gs_topo.specs.Walks.{IsTopology, IsWalk, has_walk, least_from, one_each, reaches}
+use Rattle.gs_topo.specs.Walks.{IsTopology, IsWalk, has_walk, one_each, reaches}
 use Rattle.gs_topo.proofs.Distances.{IsConnected, both_ways, walk-from_has_walk}
 use Rattle.gs_topo.proofs.Sound.{is_graph}
 use Rattle.gs_topo.proofs.Walks.{turned, walk_append}
 use Rattle.gs_plan.proofs.Accepting.{neither}
 
 -- no number passes a test where none is found
-fails_all : (test : ℕ → Bool) (from n : ℕ) → least_from test from n ≡ None → (t : ℕ) → from ≤ t → t < from + n → test t ≡ false
-unfolding least_from
+fails_all : (test : ℕ → Bool) (from n : ℕ) → find test (range_with_len from n) ≡ None → (t : ℕ) → from ≤ t → t < from + n → test t ≡ false
 fails_all test from zero h t low high = absurd (omega arith)
 fails_all test from (suc n) h t low high = pick (test from) refl h (fails_all test (from + 1) n) where
-  pick : (b : Bool) → test from ≡ b → cond b (Some from) (least_from test (from + 1) n) ≡ None
-      → (least_from test (from + 1) n ≡ None → (s : ℕ) → from + 1 ≤ s → s < from + 1 + n → test s ≡ false) → test t ≡ false
+  pick : (b : Bool) → test from ≡ b → cond b (Some from) (find test (range_with_len (from + 1) n)) ≡ None
+      → (find test (range_with_len (from + 1) n) ≡ None → (s : ℕ) → from + 1 ≤ s → s < from + 1 + n → test s ≡ false) → test t ≡ false
   pick true is h rest = absurd (cc)
   pick false is h rest = elim (cases_lt from t) [
     | inl above ↦ rest h t (omega (arith, above)) (omega arith)
@@ -26,12 +26,11 @@ fails_all test from (suc n) h t low high = pick (test from) refl h (fails_all te
   ]
 
 -- some number passes where one is found
-some_passes : (test : ℕ → Bool) (from n : ℕ) → is_some (least_from test from n) ≡ true → (t : ℕ) × (test t ≡ true)
-unfolding least_from
+some_passes : (test : ℕ → Bool) (from n : ℕ) → is_some (find test (range_with_len from n)) ≡ true → (t : ℕ) × (test t ≡ true)
 some_passes test from zero h = absurd (cc)
 some_passes test from (suc n) h = pick (test from) refl h (some_passes test (from + 1) n) where
-  pick : (b : Bool) → test from ≡ b → is_some (cond b (Some from) (least_from test (from + 1) n)) ≡ true
-      → (is_some (least_from test (from + 1) n) ≡ true → (t : ℕ) × (test t ≡ true)) → (t : ℕ) × (test t ≡ true)
+  pick : (b : Bool) → test from ≡ b → is_some (cond b (Some from) (find test (range_with_len (from + 1) n))) ≡ true
+      → (is_some (find test (range_with_len (from + 1) n)) ≡ true → (t : ℕ) × (test t ≡ true)) → (t : ℕ) × (test t ≡ true)
   pick true is h rest = (from, is)
   pick false is h rest = rest h
 
@@ -48,7 +47,7 @@ true_of false h = cc
 reached : (g : Graph) → split_fault g ≡ None → (v : ℕ) → v < g.nodes → (xs : List ℕ) × IsWalk (Adjacent g) g.nodes 0 xs v
 unfolding reaches
 reached g none v hv =
-    let no_node = no_map Split (least_from (λ u. not (reaches g 0 u)) 0 g.nodes) none in
+    let no_node = no_map Split (find (λ u. not (reaches g 0 u)) (range_with_len 0 g.nodes)) none in
     let yes : reaches g 0 v ≡ true = true_of (reaches g 0 v) (fails_all (λ u. not (reaches g 0 u)) 0 g.nodes no_node v (omega arith) (omega arith)) in
     let found = some_passes (λ d. has_walk g d 0 v) 0 g.nodes yes in
     let walk = walk-from_has_walk g found.0 0 v found.1 in

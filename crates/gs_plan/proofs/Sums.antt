@@ -1,12 +1,12 @@
 -- The weight of a pair is the least sum over all walks between them.
 use Rattle.std.proofs.Common.{◌≡◌, ℕ, zero, suc, ◌+◌, ◌-◌, ◌*◌, ◌<◌, ◌≤◌, ◌&&◌, ◌==◌, nat_le, inl, inr, arith, ap, sym, refl, ◌∙◌, List, [], ◌∷◌, Bool, true, false, IsTrue, Some, get_or}
-use Rattle.std.specs.List.{range_with_len}
+use Rattle.std.specs.List.{find, range_with_len}
 use Rattle.std.proofs.Math.Nat.{mul-le-mul_left}
 use Rattle.std.proofs.lemmas.Bool.{and_from, and_parts, cases_lt, eq-eqb, eqb-true, le-leb, leb-true, or_cases, or_left, or_right}
 use Rattle.std.proofs.lemmas.List.Elements.{All-contains}
 use Rattle.gs_topo.specs.Graph.{Graph, adjacent, Adjacent}
-use Rattle.gs_topo.specs.Walks.{IsTopology, IsLeast, IsWalk, diameter_of, distance_of, least_from, length_of, one_each}
-use Rattle.gs_topo.proofs.Distances.{is_least, least_exists, least_from_is}
+use Rattle.gs_topo.specs.Walks.{IsTopology, IsLeast, IsWalk, diameter_of, distance_of, length_of, one_each}
+use Rattle.gs_topo.proofs.Distances.{is_least, found_first, least_exists}
 use Rattle.gs_topo.proofs.Members.{Contains-range, list_any-from_member, member-from_list_any, range_below}
 use Rattle.gs_topo.proofs.Tables.{at_most_diameter}
 use Rattle.gs_topo.proofs.Walks.{sum_is_small}
@@ -81,7 +81,7 @@ weight_is_least t g is positive most v w hv hw =
     λ xs other. has_sum-from_walk (adjacent g) g.nodes k positive (length_of k v xs) v w xs other (omega arith) in
     let first = least_exists test (length_of k v walk.0) (found walk.0 walk.1) in
     let within : first.0 ≤ high = omega (arith, first.1, short, less) in
-    let is_first : least_from test 0 (high + 1) ≡ Some first.0 = least_from_is test 0 (high + 1) first.0 (omega arith) (omega (arith, within)) first.2 (λ d h low. first.3 d low) in
+    let is_first : find test (range_with_len 0 (high + 1)) ≡ Some first.0 = found_first test 0 (high + 1) first.0 (omega arith) (omega (arith, within)) first.2 (λ d h low. first.3 d low) in
     rw is_first (
       record {
         some = walk-from_has_sum (adjacent g) g.nodes k first.0 v w first.0 first.2;

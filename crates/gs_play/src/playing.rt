@@ -21,12 +21,12 @@ use gs_script::Script;
 use std::alloc::Global;
 use std::thread::Threads;
 
-/// Plays a script on its plan from equal clocks by so many workers, and reports the skews of the clocks at
-/// the start and at the end of each quantum, in clock units. It stops at the first quantum that is not
-/// allowed, which is one where a node has heard nothing new of a neighbour for too long; a script can break
-/// no other rule. Every play that ends with a report keeps the bounds of the plan: see
-/// [`scripts_keep_bounds`]. A script that loses no more beacons in a row than the plan's `losses` is played
-/// to the end: see [`few_losses_never_breach`]. The report is the same for each number of workers.
+/// Plays a script on its plan from clocks that are all 0, by 1 to 64 workers, and reports the skews of the
+/// clocks at the start and at the end of each quantum, in clock units. It stops at the first quantum that is
+/// not allowed, which is one where a node has heard nothing new of a neighbour for too long; a script can
+/// break no other rule. Every play that ends with a report keeps the bounds of the plan: see
+/// [`scripts_keep_bounds`]. A script that loses no more beacons in a row than the plan's `losses` stops for
+/// want of memory alone: see [`few_losses_never_breach`]. The report is the same for each number of workers.
 ///
 /// Each worker has a piece of the nodes, and takes it through a window of quanta: it enters the gate before
 /// that, and leaves it after.

@@ -1,5 +1,5 @@
 -- The rows of a script from any clocks: where it begins, how it goes on, and where it ends.
-use Rattle.std.proofs.Common.{◌≡◌, ℕ, zero, suc, ◌+◌, ◌<◌, ◌^◌, arith, ap, refl, ◌∙◌, sym, List, [], ◌∷◌, ◌++◌, length, filter, map, Some, None, append_assoc, length-append, All, get_or, slice_index}
+use Rattle.std.proofs.Common.{◌≡◌, ℕ, zero, suc, ◌+◌, ◌<◌, ◌^◌, arith, ap, refl, ◌∙◌, sym, List, [], ◌∷◌, ◌++◌, length, map, Some, None, append_assoc, length-append, All, get_or, slice_index}
 use Rattle.std.proofs.Math.Seq.{get_or-append_seam}
 use Rattle.std.specs.List.{AllByRecursion, range_with_len}
 use Rattle.std.proofs.lemmas.List.{get_or-map, length-map}
@@ -8,6 +8,7 @@ use Rattle.std.proofs.lemmas.List.FromFn.{length-map-range_with_len}
 use Rattle.gs_core.specs.Node.{clock_of}
 use Rattle.gs_core.specs.declared.event.Event.{Event}
 use Rattle.gs_core.specs.declared.event.Event.TheVariants.{Quantum, Tick, Deliver}
+use Rattle.gs_core.specs.inside.Events.{IsNoQuantum}
 use Rattle.gs_plan.specs.declared.plan.Plan.{Plan}
 use Rattle.gs_plan.specs.Plans.{text_of}
 use Rattle.gs_script.specs.Script.{Said, IsScript}
@@ -22,7 +23,6 @@ use Rattle.gs_run.proofs.PlanNumbers.{plan_has_numbers}
 use Rattle.gs_calendar.specs.Breach.{first_breach}
 use Rattle.gs_calendar.specs.Calm.{Calm}
 use Rattle.gs_calendar.specs.Course.{Course, course_of}
-use Rattle.gs_calendar.specs.Calendar.{ticks}
 use Rattle.gs_calendar.specs.Events.{events_of, events_upto, nodes_of, quantum_at, ticks_at}
 use Rattle.gs_calendar.specs.Scripts.{start_of}
 use Rattle.gs_calendar.specs.Scripts.{breach_of_script}
@@ -30,8 +30,8 @@ use Rattle.gs_calendar.proofs.Agree.{start_is_calendar}
 use Rattle.gs_calendar.proofs.Calm.{calm_upto}
 use Rattle.gs_calendar.proofs.Fitting.{IsCourse, fits}
 use Rattle.gs_calendar.proofs.Hearing.{start_is_heard}
-use Rattle.gs_calendar.proofs.OneSeat.{IsDelivery, all_deliveries, are_deliveries}
-use Rattle.gs_calendar.proofs.Parts.{each_append, each_any, each_map, each_weaker}
+use Rattle.gs_calendar.proofs.NoQuanta.{rest_is_no_quantum}
+use Rattle.gs_calendar.proofs.OneSeat.{all_deliveries}
 use Rattle.gs_calendar.proofs.Staleness.{breach_is, script_breach_is}
 use Rattle.gs_rows.specs.inside.Onward.{GoesOn, left_of}
 use Rattle.gs_rows.specs.Row.{Row, row_at, rows_after, rows_from, start_from, zeros_of}
@@ -150,31 +150,15 @@ quanta_more (Quantum incs ∷ xs) ys = let h = quanta_more xs ys in omega (arith
 quanta_more (Tick v ∷ xs) ys = quanta_more xs ys
 quanta_more (Deliver from to seq ∷ xs) ys = quanta_more xs ys
 
--- what is no quantum
-abbrev IsNoQuantum : Event → Type 0
-IsNoQuantum (Quantum incs) = ⊥
-IsNoQuantum (Tick v) = Unit {0}
-IsNoQuantum (Deliver from to seq) = Unit {0}
-
 no_quanta : (es : List Event) → AllByRecursion IsNoQuantum es → quanta_in es ≡ 0
 no_quanta [] h = refl
 no_quanta (Quantum incs ∷ es) h = absurd h.0
 no_quanta (Tick v ∷ es) h = no_quanta es h.1
 no_quanta (Deliver from to seq ∷ es) h = no_quanta es h.1
 
-delivery_is_none : (e : Event) → IsDelivery e → IsNoQuantum e
-delivery_is_none (Quantum incs) h = h
-delivery_is_none (Tick v) h = tt
-delivery_is_none (Deliver from to seq) h = tt
-
 one_quantum : (net : Net) (c : Course) (t : ℕ) → quanta_in (quantum_at net c t) ≡ 1
 one_quantum net c t =
-    let ticking : List ℕ = filter (λ v. ticks net c v t) (nodes_of net) in
-    let none : AllByRecursion IsNoQuantum (all_deliveries net c t ++ ticks_at net c t) =
-    each_append IsNoQuantum (all_deliveries net c t) (ticks_at net c t)
-    (each_weaker IsDelivery IsNoQuantum delivery_is_none (all_deliveries net c t) (are_deliveries net c t (nodes_of net)))
-    (each_map IsNoQuantum Tick ticking (each_any _ (λ v. tt) ticking)) in
-    let rest = no_quanta (all_deliveries net c t ++ ticks_at net c t) none in
+    let rest = no_quanta (all_deliveries net c t ++ ticks_at net c t) (rest_is_no_quantum net c t) in
     omega (arith, rest)
 
 quanta_upto : (net : Net) (c : Course) (t : ℕ) → quanta_in (events_upto net c t) ≡ t

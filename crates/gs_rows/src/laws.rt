@@ -6,10 +6,9 @@ pub fn rows_are_reported()
     ensures { RowsAreReported }
 {}
 
-/// The rows of a script without a breach keep the bounds of the plan, from clocks that are all 0: at the end of
-/// each quantum all clocks are within `G(0)` of each other and, for every level `s`, two clocks within
-/// `2*s` times their weight and `G(s)`; and no clock falls from one quantum's end to a later one's. All in clock
-/// units.
+/// The rows of a script without a breach keep the bounds of the plan, from clocks that are all 0: at the start
+/// and at the end of each quantum all clocks are within `G(0)` of each other and, for every level `s`, two clocks
+/// within `2*s` times their weight and `G(s)`; and no clock falls from a row to a later one. All in clock units.
 pub fn rows_are_steady()
     ensures { RowsAreSteady }
 {}

@@ -96,7 +96,7 @@ impl<'p> Rows<'p> {
 
     /// Plays on to the end of the next quantum. It answers false where all quanta are played: then all events
     /// of the script were allowed. It stops at the script's first breach, which is the same from whatever
-    /// clocks. A refusal changes nothing.
+    /// clocks. An `Err` changes nothing.
     pub fn next(&mut self, alloc: Global) -> Result<bool, PlayStop>
         ensures on { result ≡ Ok true → self.new ≡ record self.old { quanta = self.old.quanta + 1 } }
         ensures inside { result ≡ Ok true → self.old.quanta < self.old.said.quanta }
@@ -132,7 +132,7 @@ impl<'p> Rows<'p> {
         self.world.clocks()
     }
 
-    /// The number of nodes that took that quantum in fast mode, 0 at the start.
+    /// The number of nodes that took the last quantum that is played in fast mode, 0 at the start.
     pub fn fast(&self) -> u32
         ensures { result ≡ (row_now self.now).fast }
     {

@@ -1,24 +1,23 @@
 -- The rows of clocks and the count of fast nodes, one quantum more.
-use Rattle.std.proofs.Common.{◌≡◌, ℕ, suc, ◌+◌, arith, ap, refl, ◌∙◌, List, [], ◌∷◌, ◌++◌, map, filter}
-use Rattle.std.specs.Bool.{⊤}
+use Rattle.std.proofs.Common.{◌≡◌, ℕ, suc, ◌+◌, arith, ap, refl, ◌∙◌, List, [], ◌∷◌, ◌++◌, map}
 use Rattle.std.specs.List.{AllByRecursion}
 use Rattle.std.proofs.lemmas.List.{map-append}
 use Rattle.gs_core.specs.declared.event.Event.{Event}
 use Rattle.gs_core.specs.declared.event.Event.TheVariants.{Quantum, Tick, Deliver}
+use Rattle.gs_core.specs.inside.Events.{IsNoQuantum}
 use Rattle.gs_run.specs.Fast.{fast_in}
 use Rattle.gs_run.specs.Net.{Net}
 use Rattle.gs_run.specs.World.{World, clocks_in, effect}
 use Rattle.gs_run.specs.Run.{run, later_ends}
-use Rattle.gs_calendar.specs.Calendar.{ticks}
 use Rattle.gs_calendar.specs.Course.{Course}
-use Rattle.gs_calendar.specs.Events.{nodes_of, incs_at, ticks_at, quantum_at, events_upto}
+use Rattle.gs_calendar.specs.Events.{incs_at, ticks_at, quantum_at, events_upto}
 use Rattle.gs_calendar.specs.Scripts.{start_of}
 use Rattle.gs_run.specs.RunRows.{rows_of, fast_of}
-use Rattle.gs_calendar.proofs.OneSeat.{IsDelivery, all_deliveries, are_deliveries, begun, begins}
+use Rattle.gs_calendar.proofs.NoQuanta.{rest_is_no_quantum}
+use Rattle.gs_calendar.proofs.OneSeat.{all_deliveries, begun, begins}
 use Rattle.gs_seat.specs.Worlds.{world_of}
 use Rattle.gs_seat.proofs.Clocks.{next_clocks}
 use Rattle.gs_seat.proofs.Turning.{world_agrees}
-use Rattle.gs_calendar.proofs.Parts.{each_append, each_map, each_any, each_weaker}
 
 -- ---- some events after others
 
@@ -36,11 +35,6 @@ fast_more net w (Deliver from to seq ∷ xs) ys = fast_more net (effect net w (D
 
 -- ---- events other than quanta
 
-abbrev IsNoQuantum : Event → Type 0
-IsNoQuantum (Quantum incs) = ⊥
-IsNoQuantum (Tick v) = ⊤
-IsNoQuantum (Deliver from to seq) = ⊤
-
 no_ends : (net : Net) (w : World) (es : List Event) → AllByRecursion IsNoQuantum es → later_ends net w es ≡ []
 no_ends net w [] h = refl
 no_ends net w (Quantum incs ∷ es) h = absurd h.0
@@ -53,18 +47,6 @@ no_fast net w (Quantum incs ∷ es) h = absurd h.0
 no_fast net w (Tick v ∷ es) h = no_fast net (effect net w (Tick v)) es h.1
 no_fast net w (Deliver from to seq ∷ es) h = no_fast net (effect net w (Deliver from to seq)) es h.1
 
-delivery_is_other : (e : Event) → IsDelivery e → IsNoQuantum e
-delivery_is_other (Quantum incs) h = h
-delivery_is_other (Tick v) h = tt
-delivery_is_other (Deliver from to seq) h = tt
-
-rest_is_other : (net : Net) (c : Course) (t : ℕ) → AllByRecursion IsNoQuantum (all_deliveries net c t ++ ticks_at net c t)
-rest_is_other net c t =
-    let ticking : List ℕ = filter (λ v. ticks net c v t) (nodes_of net) in
-    each_append IsNoQuantum (all_deliveries net c t) (ticks_at net c t)
-    (each_weaker IsDelivery IsNoQuantum delivery_is_other (all_deliveries net c t) (are_deliveries net c t (nodes_of net)))
-    (each_map IsNoQuantum Tick ticking (each_any _ (λ v. tt) ticking))
-
 -- ---- one quantum more
 
 -- one row more
@@ -75,7 +57,7 @@ rows_next net c t =
     let rest : List Event = all_deliveries net c (suc t) ++ ticks_at net c (suc t) in
     let before : List World = later_ends net (start_of net) (events_upto net c t) in
     ap (λ (ws : List World). map (clocks_in net) (start_of net ∷ ws)) (ends_more net (start_of net) (events_upto net c t) (quantum_at net c (suc t)))
-    ∙ ap (λ (ws : List World). map (clocks_in net) (start_of net ∷ (before ++ y ∷ ws))) (no_ends net y rest (rest_is_other net c (suc t)))
+    ∙ ap (λ (ws : List World). map (clocks_in net) (start_of net ∷ (before ++ y ∷ ws))) (no_ends net y rest (rest_is_no_quantum net c (suc t)))
     ∙ ap (λ (x : World). map (clocks_in net) (start_of net ∷ (before ++ x ∷ []))) (begins net c (suc t) z (world_agrees net c t).count)
     ∙ map-append (clocks_in net) (start_of net ∷ before) (begun net c (suc t) z ∷ [])
     ∙ ap (λ (row : List ℕ). rows_of net (start_of net) (events_upto net c t) ++ row ∷ []) (next_clocks net c t)
@@ -86,5 +68,5 @@ fast_next net c t =
     let z : World = world_of net c t in
     let y : World = effect net z (Quantum (incs_at net c (suc t))) in
     let rest : List Event = all_deliveries net c (suc t) ++ ticks_at net c (suc t) in
-    let none = no_fast net y rest (rest_is_other net c (suc t)) in
+    let none = no_fast net y rest (rest_is_no_quantum net c (suc t)) in
     fast_more net (start_of net) (events_upto net c t) (quantum_at net c (suc t)) ∙ omega (arith, none)

@@ -10,7 +10,7 @@ pub(crate) fn first_old(heard: &[u32], age: u32, t: u32) -> Option<usize>
         .position(|sent| u64::from(*sent) + u64::from(age) <= u64::from(t))
 }
 
-/// The least of these quanta.
+/// A quantum that is no later than any of these.
 pub(crate) fn oldest(heard: &[u32]) -> u32
     ensures { (i : ℕ) → i < length heard.now → result ≤ slice_index heard.now i }
 {

@@ -125,7 +125,7 @@ impl Seat {
         first_old(self.node.heard(), plan.text().age, t)
     }
 
-    /// The least quantum in which any of what was heard last of the neighbours was sent.
+    /// A quantum that is no later than any in which what was heard last of a neighbour was sent.
     pub fn oldest(&self) -> u32
         ensures { (net : Net) (c : Course) (v i : ℕ) (by : ℕ → ℕ) (m t : ℕ) → v < net.nodes → i < length (neighbours net v)
             → IsSeatAt net c v by m t self.now → result ≤ (heard_at net c (neighbour net v i) v t).quantum }
@@ -209,8 +209,8 @@ impl Seat {
         Ok(())
     }
 
-    /// Forgets what it sent in the window, which all its neighbours have taken over, and begins the next
-    /// window.
+    /// Begins the next window, once what all its neighbours sent in this one has been taken over, and
+    /// forgets what it sent.
     pub fn end_window(&mut self)
         ensures { (net : Net) (c : Course) (v : ℕ) (by : ℕ → ℕ) (m t : ℕ) → IsSeatAt net c v by m t self.old
             → ((x : ℕ) → Has x (neighbours net v) → by x ≡ t) → IsSeatIn net c v t t self.new }

@@ -6,7 +6,7 @@ ghost use Rattle.gs_settle.specs.Laws.{RunsSettle};
 ///
 /// Until `T0` the skew may grow by the drift, since nodes may decide by clocks of the start that nobody sent;
 /// then what they decide by was heard, and the skew falls by `q - r` a quantum down to `G(0)`. Each further
-/// level takes the time in which a node that is behind gains the bound of the level above it.
+/// level takes the time in which a node that is behind gains the bound of the level before it.
 pub fn runs_settle()
     ensures { RunsSettle }
 {}

@@ -18,11 +18,12 @@ use std::alloc::{AllocError, Global};
 /// How a play from unequal clocks settled.
 #[derive(Drop)]
 pub struct Settled {
-    /// The quantum from which each level holds.
+    /// The quantum from which each level holds, which is known beforehand.
     pub times: Vec<u128>,
-    /// The last quantum at whose end each level was above its bound, if there was one.
+    /// The last quantum at whose end each level was above its bound, if there was one; the start counts as
+    /// quantum 0.
     pub last: Vec<Option<u32>>,
-    /// Over all quanta, the nodes that took each in fast mode.
+    /// How many nodes took a quantum in fast mode, summed over all quanta.
     pub fast: u64,
 }
 
@@ -91,8 +92,11 @@ fn with_fast(fast: u64, t: u32, more: u32) -> u64
     fast + u64::from(more)
 }
 
-/// A play of a script from clocks that differ by `gamma` at most: node v starts at reading 0 and clock
-/// `gamma*v` over the greatest node, rounded down. The script was read for the plan.
+/// A play of a script from clocks that differ by `gamma` clock units at most: node v starts at reading 0 and
+/// clock `gamma*v` over the greatest node, rounded down. Each level holds from its time on: see [`runs_settle`].
+/// It stops at the script's first breach. The script was read for the plan.
+///
+/// [`runs_settle`]: crate::runs_settle
 pub fn settle(alloc: Global, plan: &Plan, script: &Script, gamma: u64) -> Result<Settled, PlayStop>
     requires script { script.now.text ≡ text_of plan.now }
     requires gamma { gamma ≤ 2 ^ 61 }

@@ -10,7 +10,7 @@ use std::fmt;
 pub enum SlotFault {
     /// The reach is 0 or above 4.
     Reach,
-    /// A slot is no longer than its two guards, or is 2^48 or more.
+    /// A slot is no longer than its two guards, or is 2^48 clock units or more.
     Slot,
     /// Memory was refused.
     OutOfMemory,

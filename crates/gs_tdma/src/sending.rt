@@ -48,8 +48,9 @@ fn with_clocks(slots: &SlotPlan, nodes: u32, t: u32, clocks: &[u64], sent: &mut 
     }
 }
 
-/// For each node the number of quanta of a script, from clocks that are 0, at whose end it may send. The
-/// script was read for the plan, and the slots are the plan's.
+/// For each node the number of quanta of a script, from clocks that are all 0, at whose end it may send. No two
+/// nodes within reach may send at one such end. It stops at the script's first breach. The script was read for
+/// the plan, and the slots are the plan's.
 pub fn slot_run(
     alloc: Global,
     plan: &Plan,

@@ -36,7 +36,7 @@ impl Model for SlotPlan {
 }
 
 /// The slot plan of a plan in which nodes at most `reach` steps apart never send at one moment, with slots
-/// of `slot` clock units: see [`slots_never_collide`].
+/// of `slot` clock units: see [`slots_never_collide`]. A reach that is refused is named before a slot.
 ///
 /// [`slots_never_collide`]: crate::slots_never_collide
 pub fn slots(alloc: Global, plan: &Plan, reach: u32, slot: u64) -> Result<SlotPlan, SlotFault>
@@ -133,7 +133,7 @@ impl SlotPlan {
         u64::from(self.count) * self.slot
     }
 
-    /// Whether node `v` may send at this clock.
+    /// Whether node `v` may send at this clock, in clock units.
     pub fn may_send(&self, v: u32, clock: u64) -> bool
         requires { v < length self.now.colours }
         ensures { result ≡ sends self.now v clock }
@@ -141,8 +141,8 @@ impl SlotPlan {
         sends_in(self.period(), self.slot, self.guard, self.colour(v), clock)
     }
 
-    /// The first clock from this one on at which node `v` may send, or none where that is no clock: where
-    /// it reaches `END`.
+    /// The first clock from this one on at which node `v` may send, in clock units, or none where that is no
+    /// clock: where it reaches `END`.
     pub fn next(&self, v: u32, clock: u64) -> Option<u64>
         requires node { v < length self.now.colours }
         requires clock { clock < END }

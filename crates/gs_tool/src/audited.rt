@@ -7,13 +7,13 @@ ghost use Rattle.gs_cli.specs.inside.Stops.{EndsWith};
 ghost use Rattle.gs_tool.specs.Audited.{IsAudited, IsReplayOf, IsReplayed, audit_answer, mode_word};
 ghost use Rattle.gs_tool.specs.Audited.{refused_at, replay_answer, trace_refused};
 ghost use Rattle.gs_tool.specs.inside.AuditSeen.{HasLevels};
-ghost use Rattle.gs_inputs.specs.Plans.{node_refused};
 ghost use Rattle.gs_inputs.specs.Sources.{seen};
 ghost use Rattle.gs_tool.specs.TraceInputs.{IsAnswerAlong};
 
 use crate::trace_input::read_plan_and_trace;
 use gs_audit::{NodeVerdict, Verdict, audit_scan, replay_scan};
 use gs_cli::{Reply, Status, Stop};
+use gs_inputs::node_refusal;
 use gs_io::Files;
 use gs_plan::Plan;
 use gs_trace::{NodeScan, TraceFault, scan_node, scan_world};
@@ -199,17 +199,4 @@ fn trace_refusal(alloc: Global, fault: &TraceFault) -> Result<Reply, AllocError>
 {
     let why = fault.to_string(alloc)?;
     Reply::line_of(alloc, Status::InputRefused, "trace refused: ", why.as_str())
-}
-
-/// The line of a number that no node of the plan has.
-fn node_refusal(alloc: Global, node: u32) -> Result<Reply, AllocError>
-    ensures { IfOk result (λ reply. answer_in reply ≡ node_refused node) }
-{
-    let number = node.to_string(alloc)?;
-    Reply::line_of(
-        alloc,
-        Status::InputRefused,
-        "node refused: ",
-        number.as_str(),
-    )
 }

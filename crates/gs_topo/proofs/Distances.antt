@@ -1,10 +1,10 @@
 -- Distances by walks, of graphs in which walks lead everywhere.
 use Rattle.std.proofs.Common.{◌≡◌, ◌≢◌, ℕ, zero, suc, ◌+◌, ◌-◌, ◌<◌, ◌≤◌, ◌⊎◌, ◌&&◌, ◌==◌, inl, inr, arith, ap, sym, refl, ◌∙◌, List, [], ◌∷◌, ◌++◌, Bool, true, false, Some, None, ltb, cond}
-use Rattle.std.specs.List.{range_with_len}
+use Rattle.std.specs.List.{find, range_with_len}
 use Rattle.std.proofs.lemmas.Bool.{cases_eq, cases_lt, eqb-true, eq-eqb, and_parts, and_from, cases_Bool, false_from_ne_true, le-ltb, lt-ltb, or_cases, or_left, or_right}
 use Rattle.std.proofs.lemmas.List.Elements.{All-contains}
 use Rattle.gs_topo.specs.Graph.{Graph, adjacent, Adjacent, joins, joined}
-use Rattle.gs_topo.specs.Walks.{IsWalk, length_of, IsLeast, one_each, has_walk, least_from, distance_of, reaches}
+use Rattle.gs_topo.specs.Walks.{IsWalk, length_of, IsLeast, one_each, has_walk, distance_of, reaches}
 use Rattle.gs_topo.specs.Laws.{AreLeastSums, AreMetric}
 use Rattle.gs_topo.proofs.Weighing.{least_sums_weigh}
 use Rattle.gs_topo.proofs.Members.{Contains-range, range_below, list_any-from_member, member-from_list_any}
@@ -14,21 +14,19 @@ use Rattle.gs_topo.proofs.Walks.{walk_append, length_of-append, below_walks}
 from_or_later : (from s : ℕ) → from ≤ s → (from ≡ s) ⊎ (from + 1 ≤ s)
 from_or_later from s h = grind arith
 
-pub least_from_is : (test : ℕ → Bool) (from n s : ℕ) → from ≤ s → s < from + n → test s ≡ true
-    → ((t : ℕ) → from ≤ t → t < s → test t ≡ false) → least_from test from n ≡ Some s
-unfolding least_from
-least_from_is test from zero s low high passes before = absurd (omega arith)
-least_from_is test from (suc n) s low high passes before =
+pub found_first : (test : ℕ → Bool) (from n s : ℕ) → from ≤ s → s < from + n → test s ≡ true
+    → ((t : ℕ) → from ≤ t → t < s → test t ≡ false) → find test (range_with_len from n) ≡ Some s
+found_first test from zero s low high passes before = absurd (omega arith)
+found_first test from (suc n) s low high passes before =
     elim (from_or_later from s low) [
       | inl same ↦ rw (same, passes)
-      | inr later ↦ rw (before from (omega arith) (omega (arith, later))) (least_from_is test (from + 1) n s (omega arith) (omega arith) passes (λ t h g. before t (omega arith) g))
+      | inr later ↦ rw (before from (omega arith) (omega (arith, later))) (found_first test (from + 1) n s (omega arith) (omega arith) passes (λ t h g. before t (omega arith) g))
     ]
 
 -- Nothing is found where nothing passes.
-pub least_from_none : (test : ℕ → Bool) (from n : ℕ) → ((t : ℕ) → from ≤ t → t < from + n → test t ≡ false) → least_from test from n ≡ None
-unfolding least_from
-least_from_none test from zero none = refl
-least_from_none test from (suc n) none = rw (none from (omega arith) (omega arith)) (least_from_none test (from + 1) n (λ t h g. none t (omega arith) (omega arith)))
+pub found_none : (test : ℕ → Bool) (from n : ℕ) → ((t : ℕ) → from ≤ t → t < from + n → test t ≡ false) → find test (range_with_len from n) ≡ None
+found_none test from zero none = refl
+found_none test from (suc n) none = rw (none from (omega arith) (omega arith)) (found_none test (from + 1) n (λ t h g. none t (omega arith) (omega arith)))
 
 -- a test that some number passes has a least one
 pub least_exists : (test : ℕ → Bool) (n : ℕ) → test n ≡ true → (m : ℕ) × (m ≤ n) × (test m ≡ true) × ((t : ℕ) → t < m → test t ≡ false)
@@ -128,10 +126,10 @@ pub record IsLevelled (g : Graph) (s : ℕ) (d : ℕ → ℕ) : Type 0 where
   pub near : (u x : ℕ) → u < g.nodes → x < g.nodes → Adjacent g u x → d x ≤ d u + 1
 
 pub found_at : (g : Graph) (s w : ℕ) (d : ℕ → ℕ) → IsLevelled g s d → s < g.nodes → (xs : List ℕ) → IsWalk (Adjacent g) g.nodes s xs w → length_of one_each s xs ≡ d w
-    → least_from (λ t. has_walk g t s w) 0 g.nodes ≡ Some (d w)
+    → find (λ t. has_walk g t s w) (range_with_len 0 g.nodes) ≡ Some (d w)
 found_at g s w d levels hs xs walk long =
     let below = levels_below (Adjacent g) g.nodes d levels.near s w xs hs walk levels.start in
-    least_from_is (λ t. has_walk g t s w) 0 g.nodes (d w) (omega arith) (omega (arith, below))
+    found_first (λ t. has_walk g t s w) 0 g.nodes (d w) (omega arith) (omega (arith, below))
     (let h = has_walk-from_walk g s w xs walk in rw long at h)
     (λ t from before. false_from_ne_true (has_walk g t s w) (λ has.
     let shorter = walk-from_has_walk g t s w has in
@@ -148,7 +146,7 @@ is_reached g s w d levels hs xs walk long = rw (found_at g s w d levels hs xs wa
 
 pub is_not_reached : (g : Graph) (s w : ℕ) → ((xs : List ℕ) → IsWalk (Adjacent g) g.nodes s xs w → g.nodes ≤ length_of one_each s xs) → reaches g s w ≡ false
 unfolding reaches
-is_not_reached g s w longer = rw (least_from_none (λ t. has_walk g t s w) 0 g.nodes (λ t from before. false_from_ne_true (has_walk g t s w) (λ has.
+is_not_reached g s w longer = rw (found_none (λ t. has_walk g t s w) 0 g.nodes (λ t from before. false_from_ne_true (has_walk g t s w) (λ has.
     let walk = walk-from_has_walk g t s w has in
     let le = longer walk.0 walk.1 in
     omega (arith, le, walk.2, before))))

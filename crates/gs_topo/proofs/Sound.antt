@@ -21,7 +21,7 @@ use Rattle.gs_topo.specs.Walks.{IsWalk, IsTopology, IsSplitAt, one_each, reaches
 use Rattle.gs_topo.proofs.Members.{Contains-map, member-from_list_any, range_below}
 use Rattle.gs_topo.proofs.Walks.{walk_append, turned, below_walks}
 use Rattle.gs_topo.proofs.Searching.{each_step}
-use Rattle.gs_topo.proofs.Distances.{IsConnected, IsLevelled, is_reached, is_not_reached, levels_below, least_from_is, least_from_none, both_ways}
+use Rattle.gs_topo.proofs.Distances.{IsConnected, IsLevelled, is_reached, is_not_reached, levels_below, found_first, found_none, both_ways}
 use Rattle.gs_topo.proofs.Ascending.{Ascends-filter, all_pairs, pairs_ascend, pairs_within, joins-cases, adjacent_is_joined}
 
 none_of : {X : Type 0} (x y : Option X) → option_or x y ≡ None → (x ≡ None) × (y ≡ None)
@@ -105,7 +105,7 @@ not_reached g sums v s some few far_off = is_not_reached g 0 v (λ xs walk.
 pub split_at : (g : Graph) (sums : List ℕ) (v : ℕ) → AreSums g.nodes (adjacent g) one_each far_level 0 sums → 1 ≤ g.nodes → g.nodes ≤ 512 → v < g.nodes → slice_index sums v ≡ far_level
     → ((u : ℕ) → u < v → slice_index sums u ≢ far_level) → split_fault g ≡ Some (Split v)
 split_at g sums v s some few hv far_off before =
-    ap (option_map Split) (least_from_is (λ u. not (reaches g 0 u)) 0 g.nodes v (omega arith) (omega arith) (rw (not_reached g sums v s some few far_off) refl)
+    ap (option_map Split) (found_first (λ u. not (reaches g 0 u)) 0 g.nodes v (omega arith) (omega arith) (rw (not_reached g sums v s some few far_off) refl)
     (λ u low less. rw (reached g sums u s some (omega arith) (before u less)) refl))
 
 pub is_split : (g : Graph) (sums : List ℕ) (v : ℕ) → AreSums g.nodes (adjacent g) one_each far_level 0 sums → 1 ≤ g.nodes → g.nodes ≤ 512 → v < g.nodes → slice_index sums v ≡ far_level
@@ -124,7 +124,7 @@ is_split g sums v s some few hv far_off before = record {
 
 pub no_split : (g : Graph) (sums : List ℕ) → AreSums g.nodes (adjacent g) one_each far_level 0 sums → 1 ≤ g.nodes → ((u : ℕ) → u < g.nodes → slice_index sums u ≢ far_level) → split_fault g ≡ None
 no_split g sums s some all =
-    ap (option_map Split) (least_from_none (λ u. not (reaches g 0 u)) 0 g.nodes (λ u low less. let hu : u < g.nodes = omega (arith, less) in rw (reached g sums u s some hu (all u hu)) refl))
+    ap (option_map Split) (found_none (λ u. not (reaches g 0 u)) 0 g.nodes (λ u low less. let hu : u < g.nodes = omega (arith, less) in rw (reached g sums u s some hu (all u hu)) refl))
 
 pub connected : (g : Graph) (sums : List ℕ) → AreSums g.nodes (adjacent g) one_each far_level 0 sums → 1 ≤ g.nodes → ((u : ℕ) → u < g.nodes → slice_index sums u ≢ far_level) → IsConnected g
 connected g sums s some all v w hv hw =

@@ -1,11 +1,12 @@
 -- What is wrong with a list of edges over some nodes: the first fault.
 use Rattle.std.specs.Prelude.{ℕ, ◌+◌, ◌&&◌, ◌||◌, ◌==◌, not, nat_lt, if◌then◌else◌}
 use Rattle.std.specs.Prelude.{List, [], ◌∷◌, ◌++◌, length, Option, Some, None, option_map}
+use Rattle.std.specs.List.{find, range_with_len}
 use Rattle.std.specs.Option.{option_or}
 use Rattle.gs_topo.specs.declared.fault.TopoFault.{TopoFault}
 use Rattle.gs_topo.specs.declared.fault.TopoFault.TheVariants.{Count, Edges, Node, Loop, Double, Split}
 use Rattle.gs_topo.specs.Graph.{Graph, graph_of, joined}
-use Rattle.gs_topo.specs.Walks.{least_from, reaches}
+use Rattle.gs_topo.specs.Walks.{reaches}
 
 -- what is wrong with the edge of number i, where `before` are the edges given before it
 abbrev pub edge_fault : ℕ → List (ℕ × ℕ) → ℕ → ℕ × ℕ → Option TopoFault
@@ -22,7 +23,7 @@ edges_fault n before i (e ∷ es) = option_or (edge_fault n before i e) (edges_f
 
 -- the least node that node 0 does not reach
 abbrev pub split_fault : Graph → Option TopoFault
-split_fault g = option_map Split (least_from (λ v. not (reaches g 0 v)) 0 g.nodes)
+split_fault g = option_map Split (find (λ v. not (reaches g 0 v)) (range_with_len 0 g.nodes))
 
 -- the first fault of a list of edges over n nodes
 abbrev pub fault_of : ℕ → List (ℕ × ℕ) → Option TopoFault

@@ -1,7 +1,7 @@
 -- Walks, least sums over walks, and distances. No definition here speaks of a table or a search.
-use Rattle.std.specs.Prelude.{◌≡◌, ℕ, zero, suc, ◌+◌, ◌<◌, ◌≤◌, ◌&&◌, ◌==◌, max, Bool, if◌then◌else◌}
-use Rattle.std.specs.Prelude.{List, [], ◌∷◌, All, AllPairs, fold, length, map, Option, Some, None, is_some, unwrap_or}
-use Rattle.std.specs.List.{flat_map, list_any, range_with_len}
+use Rattle.std.specs.Prelude.{◌≡◌, ℕ, zero, suc, ◌+◌, ◌<◌, ◌≤◌, ◌&&◌, ◌==◌, max, Bool}
+use Rattle.std.specs.Prelude.{List, [], ◌∷◌, All, AllPairs, fold, length, map, is_some, unwrap_or}
+use Rattle.std.specs.List.{find, flat_map, list_any, range_with_len}
 use Rattle.gs_topo.specs.Graph.{Graph, adjacent, Adjacent, IsBefore}
 
 -- a walk from v over these nodes to w
@@ -28,18 +28,13 @@ unfoldable pub has_walk : Graph → ℕ → ℕ → ℕ → Bool
 has_walk g zero v w = v == w
 has_walk g (suc d) v w = list_any (λ x. adjacent g v x && has_walk g d x w) (range_with_len 0 g.nodes)
 
--- the first of the n numbers from `from` on that passes the test
-unfoldable pub least_from : (ℕ → Bool) → ℕ → ℕ → Option ℕ
-least_from test from zero = None
-least_from test from (suc n) = if test from then Some from else least_from test (from + 1) n
-
 -- the least number of steps of a walk from v to w, which is below the number of nodes where there is one
 unfoldable pub distance_of : Graph → ℕ → ℕ → ℕ
-distance_of g v w = unwrap_or (least_from (λ d. has_walk g d v w) 0 g.nodes) g.nodes
+distance_of g v w = unwrap_or (find (λ d. has_walk g d v w) (range_with_len 0 g.nodes)) g.nodes
 
 -- some walk of fewer steps than there are nodes leads from v to w
 unfoldable pub reaches : Graph → ℕ → ℕ → Bool
-reaches g v w = is_some (least_from (λ d. has_walk g d v w) 0 g.nodes)
+reaches g v w = is_some (find (λ d. has_walk g d v w) (range_with_len 0 g.nodes))
 
 -- walks lead from node 0 to each node below v, and none to v
 pub record IsSplitAt (g : Graph) (v : ℕ) : Type 0 where

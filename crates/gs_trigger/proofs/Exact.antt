@@ -8,7 +8,7 @@ use Rattle.gs_trigger.specs.Triggers.{odd_level, even_level, FastAt, SlowAt, hig
 use Rattle.gs_trigger.specs.inside.Sides.{Reaches, TriggerAt, trigger_at, trigger_level}
 use Rattle.gs_trigger.specs.declared.trigger.Trigger.{Trigger}
 use Rattle.gs_trigger.specs.declared.trigger.Trigger.TheVariants.{Fast, Slow}
-use Rattle.gs_trigger.proofs.Search.{least_from-first, least_from-some, least_from-none}
+use Rattle.gs_trigger.proofs.Search.{found_first, found_some, found_none}
 use Rattle.gs_trigger.proofs.Tests.{trigger_at-true, trigger_at-false}
 use Rattle.gs_trigger.proofs.Distances.{even_is}
 
@@ -60,19 +60,19 @@ pub trigger_level-least : (trigger : Trigger) (s : ℕ) (xs : List Sight) → Ha
     → ((t : ℕ) → 1 ≤ t → TriggerAt trigger xs t → s ≤ t) → trigger_level trigger xs ≡ Some s
 unfolding trigger_level
 trigger_level-least trigger s xs margins one holds least =
-    least_from-first (trigger_at trigger xs) 1 (highest xs) s one (low_enough trigger s xs margins one holds) (trigger_at-true trigger s xs holds)
+    found_first (trigger_at trigger xs) 1 (highest xs) s one (low_enough trigger s xs margins one holds) (trigger_at-true trigger s xs holds)
     (λ t from before. trigger_at-false trigger t xs (λ earlier. let le = least t from earlier in omega (arith, le)))
 
 -- it finds one where the trigger holds at some level
 pub trigger_level-some : (trigger : Trigger) (s : ℕ) (xs : List Sight) → HaveMargins xs → 1 ≤ s → TriggerAt trigger xs s → is_some (trigger_level trigger xs) ≡ true
 unfolding trigger_level
-trigger_level-some trigger s xs margins one holds = least_from-some (trigger_at trigger xs) 1 (highest xs) s one (low_enough trigger s xs margins one holds) (trigger_at-true trigger s xs holds)
+trigger_level-some trigger s xs margins one holds = found_some (trigger_at trigger xs) 1 (highest xs) s one (low_enough trigger s xs margins one holds) (trigger_at-true trigger s xs holds)
 
 -- it finds none where the trigger never holds
 pub trigger_level-none : (trigger : Trigger) (xs : List Sight) → ((t : ℕ) → 1 ≤ t → ¬ TriggerAt trigger xs t) → trigger_level trigger xs ≡ None
 unfolding trigger_level
 trigger_level-none trigger xs refused =
-    least_from-none (trigger_at trigger xs) 1 (highest xs) (λ t from. trigger_at-false trigger t xs (refused t from))
+    found_none (trigger_at trigger xs) 1 (highest xs) (λ t from. trigger_at-false trigger t xs (refused t from))
 
 -- the same of the two triggers, by their own names
 pub fast_level-some : (s : ℕ) (xs : List Sight) → HaveMargins xs → 1 ≤ s → FastAt xs s → is_some (fast_level xs) ≡ true

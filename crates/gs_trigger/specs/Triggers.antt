@@ -1,8 +1,8 @@
 -- Rules 4 and 5: when a trigger holds at a level, and its least level.
-use Rattle.std.specs.Prelude.{ℕ, ℤ, zero, suc, pos, neg_ℤ, nat_abs, ◌≤ℤ◌, ◌-ℤ◌, ◌<◌, ◌+◌, ◌-◌, ◌*◌, ◌/◌}
-use Rattle.std.specs.Prelude.{List, Bool, ◌&&◌, if◌then◌else◌, Option, Some, None, sum_by, All, Any}
+use Rattle.std.specs.Prelude.{ℕ, ℤ, pos, neg_ℤ, nat_abs, ◌≤ℤ◌, ◌-ℤ◌, ◌<◌, ◌+◌, ◌-◌, ◌*◌, ◌/◌}
+use Rattle.std.specs.Prelude.{List, Bool, ◌&&◌, Option, sum_by, All, Any}
 use Rattle.std.specs.Int.Signed.{le_z}
-use Rattle.std.specs.List.{list_any, list_all}
+use Rattle.std.specs.List.{find, list_any, list_all, range_with_len}
 use Rattle.gs_units.specs.declared.params.Link.{Link}
 
 -- a link and the offset of its neighbour
@@ -67,19 +67,14 @@ slow_at sights s = list_any (is_far_behind s) sights && list_all (is_not_too_far
 
 -- ---- the least level of each
 
--- the least of the n numbers from `from` on that passes the test
-abbrev pub least_from : (ℕ → Bool) → ℕ → ℕ → Option ℕ
-least_from test from zero = None
-least_from test from (suc n) = if test from then Some from else least_from test (from + 1) n
-
 -- a level above which no offset is far enough ahead or behind for either trigger
 abbrev pub highest : List Sight → ℕ
 highest sights = sum_by (λ x. nat_abs x.1 / x.0.kappa + 1) sights
 
 -- the least level of the fast trigger
 unfoldable pub fast_level : List Sight → Option ℕ
-fast_level sights = least_from (fast_at sights) 1 (highest sights)
+fast_level sights = find (fast_at sights) (range_with_len 1 (highest sights))
 
 -- the least level of the slow trigger
 unfoldable pub slow_level : List Sight → Option ℕ
-slow_level sights = least_from (slow_at sights) 1 (highest sights)
+slow_level sights = find (slow_at sights) (range_with_len 1 (highest sights))

@@ -2,7 +2,6 @@
 use Rattle.std.specs.Prelude.{◌≡◌, ℕ, ◌+◌, ◌*◌, ◌^◌, ◌<◌, ◌≤◌, List, [], ◌∷◌, ◌++◌, length, map}
 use Rattle.gs_topo.specs.Graph.{Graph}
 use Rattle.gs_core.specs.declared.event.Event.{Event}
-use Rattle.gs_core.specs.declared.event.Event.TheVariants.{Quantum, Tick, Deliver}
 use Rattle.gs_level.specs.Tallies.{tally_of}
 use Rattle.gs_level.specs.declared.tally.Tally.{Tally}
 use Rattle.gs_run.specs.Net.{Net}
@@ -25,9 +24,3 @@ pub record IsUnderWay (net : Net) (g : Graph) (start : World) (all left : List E
   pub count : length clocks ≡ net.nodes
   pub few : fast ≤ 2 ^ 32 * w.quanta
   pub short : index + length left < 2 ^ 64
-
--- a tick or a delivery
-abbrev pub IsNoQuantum : Event → Type 0
-IsNoQuantum (Quantum incs) = ⊥
-IsNoQuantum (Tick v) = Unit {0}
-IsNoQuantum (Deliver from to seq) = Unit {0}

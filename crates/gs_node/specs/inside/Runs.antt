@@ -52,22 +52,22 @@ leavings_of i o d ran = record {
   others = ran.others.items;
   inlets = map i.tale ran.inlets.items;
   sent = o.sent ran.outlet;
-  door = d.tale ran.door;
-  replies = d.replies ran.door;
+  door = d.tale ran.responded.door;
+  replies = d.replies ran.responded.door;
   snaps = ran.publisher;
-  dropped = ran.dropped;
+  dropped = ran.met.dropped;
 }
 
 abbrev pub failed_in : {C V I O D : Type 0} → clock.Ghosts V → inlet.Ghosts I → outlet.Ghosts O → inlet.Ghosts D → Ran C V I O D → Failures
 failed_in v i o d ran = record {
   inlets = sum_by i.faults ran.inlets.items;
   outlet = o.faults ran.outlet;
-  door = d.faults ran.door;
-  clock = v.faults ran.view_clock;
+  door = d.faults ran.responded.door;
+  clock = v.faults ran.responded.view_clock;
 }
 
 abbrev pub reasons_of : {C V I O D : Type 0} → Ran C V I O D → Reasons
-reasons_of ran = record { timer = ran.stop; responder = ran.rest; fault = ran.fault; short = ran.short }
+reasons_of ran = record { timer = ran.stop; responder = ran.responded.rest; fault = ran.met.fault; short = ran.met.short }
 
 -- what is handed to the threads
 abbrev pub begun_by : {C V I O D : Type 0} → inlet.Ghosts I → inlet.Ghosts D → NodeParams → Hands C V I O D → ℕ → HandedIn

@@ -1,7 +1,7 @@
 -- Both triggers as one, by its side. These facts are for private functions and proofs.
 use Rattle.std.specs.Prelude.{ℕ, ℤ, neg_ℤ, ◌≤◌, List, Bool, ◌&&◌, Option, All, Any}
-use Rattle.std.specs.List.{list_any, list_all}
-use Rattle.gs_trigger.specs.Triggers.{Sight, odd_level, even_level, least_from, highest}
+use Rattle.std.specs.List.{find, list_any, list_all, range_with_len}
+use Rattle.gs_trigger.specs.Triggers.{Sight, odd_level, even_level, highest}
 use Rattle.gs_trigger.specs.Triggers.{IsFarAhead, IsNotTooFarBehind, IsFarBehind, IsNotTooFarAhead}
 use Rattle.gs_trigger.specs.Triggers.{is_far_ahead, is_not_too_far_behind, is_far_behind, is_not_too_far_ahead}
 use Rattle.gs_trigger.specs.declared.trigger.Trigger.{Trigger}
@@ -45,7 +45,7 @@ trigger_at trigger sights s = list_any (reaches trigger s) sights && list_all (a
 
 -- the least level of the trigger: `fast_level` or `slow_level`
 unfoldable pub trigger_level : Trigger → List Sight → Option ℕ
-trigger_level trigger sights = least_from (trigger_at trigger sights) 1 (highest sights)
+trigger_level trigger sights = find (trigger_at trigger sights) (range_with_len 1 (highest sights))
 
 -- s is the least level at which every neighbour allows the trigger
 pub record IsLowestAllowed (trigger : Trigger) (sights : List Sight) (s : ℕ) : Type 0 where

@@ -48,8 +48,8 @@ returns-clause-ran g c =
       timer_seat = record { whose = t.ensures.same.whose ∙ c.requires.ready.whose; few = t.ensures.most; params = t.ensures.same.params ∙ c.requires.ready.params; begun = t.ensures.same.begun };
       sent = subst (λ (ls : List Link). SentSoFar ls t.new.seat.told (g.O.Outlet.sent t.new.outlet)) c.as_slice.ensures (sent_so_far c.as_slice.result.now t.new.seat (g.O.Outlet.sent t.new.outlet) t.new.publisher t.result t.ensures.ok t.ensures.err);
       shown = shown_so_far c.as_slice.result.now _ t.new.seat (g.O.Outlet.sent t.new.outlet) t.new.publisher t.result t.ensures.same.begun t.ensures.ok t.ensures.err;
-      door = c.end-door.ensures.items ∙ ap (λ (z : ResponderName). z.items) name;
-      answers = subst (λ (node : ℕ). DoorAnswers node (g.D.Inlet.tale c.end-door.result.door) (g.D.Inlet.replies c.end-door.result.door)) (ap (λ (z : ResponderName). z.node) name) c.end-door.ensures.answers;
+      door = c.end-responded.ensures.items ∙ ap (λ (z : ResponderName). z.items) name;
+      answers = subst (λ (node : ℕ). DoorAnswers node (g.D.Inlet.tale c.end-responded.result.door) (g.D.Inlet.replies c.end-responded.result.door)) (ap (λ (z : ResponderName). z.node) name) c.end-responded.ensures.answers;
       unstarted = λ none. absurd (cc);
     }
 
@@ -62,12 +62,12 @@ returns-clause-reasons g c =
       sent = subst (λ (ls : List Link). OnOk t.result (SentAll ls t.new.seat.told (g.O.Outlet.sent t.new.outlet))) c.as_slice.ensures (sent_all c.as_slice.result.now t.new.seat (g.O.Outlet.sent t.new.outlet) t.new.publisher t.result t.ensures.ok);
       shown = shown_all c.as_slice.result.now _ t.new.seat (g.O.Outlet.sent t.new.outlet) t.new.publisher t.result t.ensures.same.begun t.ensures.ok;
       made = λ h. refl;
-      door = c.end-door.ensures.taken;
+      door = c.end-responded.ensures.taken;
       inlet_fault = c.join_all-met.ensures.fault;
       outlet_fault = t.ensures.cause;
-      door_fault = c.end-door.ensures.door;
-      owing = c.end-door.ensures.owes;
-      clock_fault = c.end-door.ensures.clock;
+      door_fault = c.end-responded.ensures.door;
+      owing = c.end-responded.ensures.owes;
+      clock_fault = c.end-responded.ensures.clock;
     }
 
 pub returns-clause-refused : goal.returns-clause-refused

@@ -1,5 +1,6 @@
 use Rattle.std.proofs.Common.{arith, rules, ◌≡◌, ◌∙◌, Some, ap, map, string_bytes}
 use Rattle.gs_topo.specs.Graph.{Graph}
+use Rattle.gs_cli.specs.declared.stop.Stop.TheVariants.{Refused}
 use Rattle.gs_inputs.specs.Sources.{seen}
 use Rattle.gs_node_run.specs.Words.{order_of}
 use Rattle.gs_node_run.specs.inside.Meaning.{meaning}
@@ -11,7 +12,7 @@ returns-then-order-nodes-clause-err g c =
     let spelled : order_of (map string_bytes c.args.words.now) ≡ Some (meaning c.in-Some.order) = search rules in
     let nodes = c.nodes.ensures.value ∙ ap (λ (x : Graph). x.nodes) c.topo.ensures in
     let past = c.if-order-nodes.true in
-    no_node (seen (g.F.Files.content c.args.files.now) (g.F.Files.faults c.args.files.now) (g.F.Files.faults c.read_plan.new.files)) (map string_bytes c.args.words.now) (meaning c.in-Some.order) c.in_ok-plan.plan _ spelled c.in_ok-plan.ensures.ok (omega (arith, nodes, past)) c.node_refusal.ensures
+    no_node (seen (g.F.Files.content c.args.files.now) (g.F.Files.faults c.args.files.now) (g.F.Files.faults c.read_plan.new.files)) (map string_bytes c.args.words.now) (meaning c.in-Some.order) c.in_ok-plan.plan (Refused c.in_ok-node_refusal.field-0) spelled c.in_ok-plan.ensures.ok (omega (arith, nodes, past)) c.in_ok-node_refusal.ensures
 
 pub returns-clause-ok : goal.returns-clause-ok
 returns-clause-ok g c =
