@@ -8,7 +8,8 @@ use Rattle.std.proofs.Common.{Option}
 use Rattle.std.proofs.lemmas.Bool.{leb-false}
 use Rattle.gs_run.proofs.Refusals.{position-None}
 use Rattle.gs_calendar.specs.Calendar.{heard_at, stale_at}
-use Rattle.gs_seat.proofs.Aging.{AreFresh, breach_stands}
+use Rattle.gs_seat.specs.inside.Freshness.{AreFresh}
+use Rattle.gs_seat.proofs.Aging.{breach_stands}
 use Rattle.gs_calendar.specs.Breach.{Breach}
 use Rattle.gs_calendar.specs.Stops.{StopsAt}
 use Rattle.gs_calendar.specs.declared.stop.PlayStop.{PlayStop}

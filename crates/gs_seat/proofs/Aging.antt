@@ -13,6 +13,7 @@ use Rattle.gs_calendar.specs.Events.{nodes_of}
 use Rattle.gs_calendar.specs.Stale.{first_stale, breach_among, breach_at, breach_upto}
 use Rattle.gs_calendar.proofs.Arrivals.{IsAged, arrivals_are_aged}
 use Rattle.gs_calendar.proofs.Turns.{sent_above}
+use Rattle.gs_seat.specs.inside.Freshness.{AreFresh}
 
 -- ---- what is heard was sent, and never earlier than what was heard before
 
@@ -58,10 +59,6 @@ pub heard_later : (net : Net) (c : Course) (from to t : ℕ) → (heard_at net c
 heard_later net c from to t = (all_follow net c from to (suc t) (heard_at net c from to t) (arrivals net c from to (suc t)) (heard_is_of net c from to t) (arrivals_are_aged net c from to (suc t))).later
 
 -- ---- the quantum up to which nothing is stale
-
--- whatever was heard by the end of quantum t is fresh up to this quantum
-abbrev pub AreFresh : Net → Course → ℕ → ℕ → Type 0
-AreFresh net c t safe = (v i : ℕ) → v < net.nodes → i < length (neighbours net v) → safe ≤ (heard_at net c (neighbour net v i) v t).quantum + net.age
 
 pub fresh_next : (net : Net) (c : Course) (t safe : ℕ) → AreFresh net c t safe → AreFresh net c (suc t) safe
 fresh_next net c t safe fresh v i hv hi =

@@ -1,3 +1,4 @@
--- What private functions and proofs speak of: no public contract rests on it.
+-- What the code's own types stand for: the contracts of the crates above and proofs speak of it, and no headline does.
 pub mod Turns
 pub mod Ways
+pub mod Freshness

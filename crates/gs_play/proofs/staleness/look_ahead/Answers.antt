@@ -2,7 +2,7 @@ use Rattle.std.proofs.Common.{suc, arith, rules}
 use Rattle.gs_run.specs.Nets.{net_of}
 use Rattle.gs_calendar.specs.Stale.{breach_at}
 use Rattle.gs_calendar.specs.Stops.{StopsAt}
-use Rattle.gs_seat.proofs.Aging.{AreFresh}
+use Rattle.gs_seat.specs.inside.Freshness.{AreFresh}
 use Rattle.gs_play.proofs.Places.{stops_first}
 use Rattle.gs_play.proofs.staleness.look_ahead.Goals as goal
 

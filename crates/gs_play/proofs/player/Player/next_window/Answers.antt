@@ -4,7 +4,7 @@ use Rattle.gs_run.specs.Nets.{net_of}
 use Rattle.gs_calendar.specs.Course.{course_of}
 use Rattle.gs_calendar.specs.Stale.{breach_upto}
 use Rattle.gs_calendar.specs.Stops.{StopsAt}
-use Rattle.gs_seat.proofs.Aging.{AreFresh}
+use Rattle.gs_seat.specs.inside.Freshness.{AreFresh}
 use Rattle.gs_piece.specs.Nodes.{none_handed}
 use Rattle.gs_play.specs.Pieces.{ArePiecesIn}
 use Rattle.gs_play.proofs.OneWindow.{at_own}

@@ -3,7 +3,8 @@ use Rattle.std.proofs.lemmas.Grind.{div_ceil_times}
 use Rattle.gs_run.specs.Nets.{net_of}
 use Rattle.gs_run.proofs.PlanNumbers.{plan_has_numbers}
 use Rattle.gs_calendar.specs.Course.{course_of}
-use Rattle.gs_seat.proofs.Aging.{AreFresh, fresh_first}
+use Rattle.gs_seat.specs.inside.Freshness.{AreFresh}
+use Rattle.gs_seat.proofs.Aging.{fresh_first}
 use Rattle.gs_play.specs.Pieces.{ArePiecesIn}
 use Rattle.gs_play.specs.Totals.{AreTotals}
 use Rattle.gs_play.proofs.OneWindow.{few_pieces}
