@@ -45,7 +45,7 @@ true_of false h = cc
 
 -- node 0 reaches each node of a graph that is not split
 reached : (g : Graph) → split_fault g ≡ None → (v : ℕ) → v < g.nodes → (xs : List ℕ) × IsWalk (Adjacent g) g.nodes 0 xs v
-unfolding reaches
+unfolding reaches split_fault
 reached g none v hv =
     let no_node = no_map Split (find (λ u. not (reaches g 0 u)) (range_with_len 0 g.nodes)) none in
     let yes : reaches g 0 v ≡ true = true_of (reaches g 0 v) (fails_all (λ u. not (reaches g 0 u)) 0 g.nodes no_node v (omega arith) (omega arith)) in

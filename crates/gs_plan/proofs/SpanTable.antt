@@ -1,7 +1,7 @@
 -- The span of each edge by the number of the edge, one span after the other.
-use Rattle.std.proofs.Common.{◌≡◌, ◌≢◌, ℕ, zero, suc, ◌+◌, ◌<◌, ◌≤◌, ◌||◌, ◌&&◌, ◌==◌, ◌++◌, arith, refl, ap, sym, ◌∙◌, inl, inr, cond, not, Bool, true, false, List, [], ◌∷◌, Option, Some, None, is_some, length, map, set, get_or, replicate, take, position}
-use Rattle.std.specs.List.{count_by, find}
-use Rattle.std.specs.Option.{option_map_or, option_or}
+use Rattle.std.proofs.Common.{◌≡◌, ◌≢◌, ℕ, zero, suc, ◌+◌, ◌<◌, ◌||◌, ◌++◌, arith, refl, ap, sym, ◌∙◌, inl, inr, cond, Bool, true, false, List, [], ◌∷◌, Option, Some, None, is_some, length, map, set, get_or, replicate, take}
+use Rattle.std.specs.List.{count_by}
+use Rattle.std.specs.Option.{option_map_or}
 use Rattle.std.proofs.lemmas.Bool.{cases_order, or_right}
 use Rattle.std.proofs.lemmas.List.{get_or-map, length-map, take_more}
 use Rattle.std.proofs.lemmas.List.Sums.{sum_by-set}

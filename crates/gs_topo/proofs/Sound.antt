@@ -104,6 +104,7 @@ not_reached g sums v s some few far_off = is_not_reached g 0 v (λ xs walk.
 
 pub split_at : (g : Graph) (sums : List ℕ) (v : ℕ) → AreSums g.nodes (adjacent g) one_each far_level 0 sums → 1 ≤ g.nodes → g.nodes ≤ 512 → v < g.nodes → slice_index sums v ≡ far_level
     → ((u : ℕ) → u < v → slice_index sums u ≢ far_level) → split_fault g ≡ Some (Split v)
+unfolding split_fault
 split_at g sums v s some few hv far_off before =
     ap (option_map Split) (found_first (λ u. not (reaches g 0 u)) 0 g.nodes v (omega arith) (omega arith) (rw (not_reached g sums v s some few far_off) refl)
     (λ u low less. rw (reached g sums u s some (omega arith) (before u less)) refl))
@@ -123,6 +124,7 @@ is_split g sums v s some few hv far_off before = record {
 }
 
 pub no_split : (g : Graph) (sums : List ℕ) → AreSums g.nodes (adjacent g) one_each far_level 0 sums → 1 ≤ g.nodes → ((u : ℕ) → u < g.nodes → slice_index sums u ≢ far_level) → split_fault g ≡ None
+unfolding split_fault
 no_split g sums s some all =
     ap (option_map Split) (found_none (λ u. not (reaches g 0 u)) 0 g.nodes (λ u low less. let hu : u < g.nodes = omega (arith, less) in rw (reached g sums u s some hu (all u hu)) refl))
 

@@ -22,7 +22,7 @@ edges_fault n before i [] = None
 edges_fault n before i (e ∷ es) = option_or (edge_fault n before i e) (edges_fault n (before ++ e ∷ []) (i + 1) es)
 
 -- the least node that node 0 does not reach
-abbrev pub split_fault : Graph → Option TopoFault
+unfoldable pub split_fault : Graph → Option TopoFault
 split_fault g = option_map Split (find (λ v. not (reaches g 0 v)) (range_with_len 0 g.nodes))
 
 -- the first fault of a list of edges over n nodes

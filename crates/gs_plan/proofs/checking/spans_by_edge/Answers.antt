@@ -1,8 +1,6 @@
-use Rattle.std.proofs.Common.{◌∙◌, ◌≡◌, ◌+◌, ap, arith, length, refl, replicate, sym, None, Some, get_or, take, set, false}
-use Rattle.gs_topo.specs.Graph.{number_of}
+use Rattle.std.proofs.Common.{◌∙◌, ◌≡◌, ap, arith, length, refl, replicate, None, get_or, take, false}
 use Rattle.gs_planfile.specs.declared.text.EdgeSpan.{EdgeSpan}
 use Rattle.gs_plan.specs.Faults.{is_bad_span}
-use Rattle.gs_plan.specs.inside.Kept.{edge_spans}
 use Rattle.gs_plan.proofs.Chain.{spans-more}
 use Rattle.gs_plan.proofs.SpanTable.{no_spans, table_next}
 use Rattle.gs_plan.proofs.checking.spans_by_edge.Goals as goal

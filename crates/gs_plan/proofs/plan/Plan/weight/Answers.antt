@@ -1,4 +1,4 @@
-use Rattle.std.proofs.Common.{subst, ◌≡◌, ◌<◌, ◌^◌}
+use Rattle.std.proofs.Common.{subst}
 use Rattle.gs_topo.specs.Graph.{Adjacent}
 use Rattle.gs_topo.specs.Walks.{IsLeast}
 use Rattle.gs_topo.specs.Weights.{Lengths, length_between}
