@@ -58,7 +58,7 @@ never_of : (p : Plan) (s : WorldStart) (es : List Event) (o : Option (ℕ × Ref
 never_of p s es None report e = tt
 never_of p s es (Some first) report e = none_wants_memory (net_of p) 0 (world_at p s) es first e
 
--- want of memory is no verdict
+-- running out of memory is no verdict
 pub is_never : (p : Plan) (s : WorldStart) (es : List Event) (v : Verdict) → v ≡ verdict_of p s es → NamesNoMemory v
 is_never p s es v is = subst (λ (x : Verdict). NamesNoMemory x) (sym is)
     (never_of p s es (refusal_at p s es) (report_at p s es) refl)

@@ -53,7 +53,7 @@ abbrev pub KeepsItsBounds : Plan → WorldStart → List Event → Verdict → T
 KeepsItsBounds p s es (verdict.Within report) = AreKept p s es report
 KeepsItsBounds p s es (verdict.Refused index why) = ⊤
 
--- it never names want of memory
+-- it never names `OutOfMemory`
 abbrev pub NamesNoMemory : Verdict → Type 0
 NamesNoMemory (verdict.Within report) = ⊤
 NamesNoMemory (verdict.Refused index why) = why ≢ OutOfMemory

@@ -16,8 +16,9 @@ use Rattle.gs_calendar.specs.Course.{Course, course_of}
 use Rattle.gs_calendar.specs.Calendar.{first_turn, sent_at, ticks}
 use Rattle.gs_calendar.specs.Due.{due_by, due_after}
 use Rattle.gs_calendar.specs.Events.{deliveries_to, events_from, events_of, incs_at, nodes_of, ticks_at}
-use Rattle.gs_calendar.specs.inside.Transits.{Has, AreInOrder, IsCovering}
-use Rattle.gs_calendar.specs.inside.Feeds.{AllSent, AreTurns, Grows, IsFeed, IsReadFor, deliver_all, deliveries_left, left_of, ticks_left, turn_in, waiting}
+use Rattle.gs_calendar.specs.Transits.{Has, AreInOrder, IsCovering}
+use Rattle.gs_calendar.specs.inside.Feeds.{AllSent, AreTurns, Grows, IsFeed, deliver_all, deliveries_left, left_of, ticks_left, turn_in, waiting}
+use Rattle.gs_calendar.specs.Scripts.{IsReadFor}
 use Rattle.gs_calendar.proofs.Feeding.{all_left, covers_later, deliveries_end, flat_same, none_after}
 use Rattle.gs_calendar.proofs.Fitting.{IsCourse, fits}
 use Rattle.gs_calendar.proofs.Growing.{AreCovering, all_sent, grows_covers}

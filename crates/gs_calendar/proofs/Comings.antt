@@ -4,7 +4,7 @@ use Rattle.std.proofs.lemmas.Bool.{cases_eq, eqb-true, and_parts}
 use Rattle.gs_run.specs.Net.{Net}
 use Rattle.gs_calendar.specs.Course.{Course}
 use Rattle.gs_calendar.specs.Calendar.{sent_at, comes_at, if_comes, coming}
-use Rattle.gs_calendar.specs.inside.Transits.{Has, Comes}
+use Rattle.gs_calendar.specs.Transits.{Has, Comes}
 use Rattle.gs_calendar.proofs.Lists.{has_more, has_left, has_right}
 use Rattle.gs_calendar.proofs.Turns.{sent_above}
 

@@ -11,7 +11,7 @@ use Rattle.gs_calendar.specs.Calendar.{Turn}
 use Rattle.gs_calendar.specs.Course.{Course}
 use Rattle.gs_calendar.specs.Due.{due_by, due_after}
 use Rattle.gs_calendar.specs.Events.{events_from, events_of, events_upto, quantum_at}
-use Rattle.gs_calendar.specs.inside.Transits.{Has, IsCovering}
+use Rattle.gs_calendar.specs.Transits.{Has, IsCovering}
 use Rattle.gs_calendar.specs.inside.Feeds.{IsFeed, NoneIsDue, Takes, deliver_all, deliveries_left, left_of, ticks_left, waiting}
 use Rattle.gs_calendar.proofs.Ticking.{range_end, range_step}
 

@@ -5,7 +5,7 @@ use Rattle.std.proofs.lemmas.Bool.{cases_eq, cases_lt, eq-eqb, ltb-false, ltb-tr
 use Rattle.gs_run.specs.Net.{Net}
 use Rattle.gs_calendar.specs.Course.{Course}
 use Rattle.gs_calendar.specs.Calendar.{Newest, newer, newest, heard_at, arrivals, sent_at}
-use Rattle.gs_calendar.specs.inside.Transits.{Has}
+use Rattle.gs_calendar.specs.Transits.{Has}
 use Rattle.gs_calendar.proofs.Arrivals.{IsAged, arrivals_are_aged}
 use Rattle.gs_calendar.proofs.Comings.{has_coming}
 use Rattle.gs_calendar.proofs.Turns.{sent_above, sent_ticks}

@@ -8,7 +8,7 @@ use Rattle.gs_calendar.specs.Due.{Key}
 use Rattle.gs_calendar.specs.Course.{Course}
 use Rattle.gs_calendar.specs.Calendar.{sent_at}
 use Rattle.gs_calendar.specs.Due.{key_cmp}
-use Rattle.gs_calendar.specs.inside.Transits.{Has, AreInOrder, InTransit, IsCovering}
+use Rattle.gs_calendar.specs.Transits.{Has, AreInOrder, InTransit, IsCovering}
 use Rattle.gs_calendar.specs.inside.Feeds.{waiting, HasSent, HasSentAll, Grows}
 use Rattle.gs_calendar.proofs.Comings.{comes_when}
 use Rattle.gs_calendar.proofs.Placed.{has_insert, insert_has, insert_in_order}

@@ -16,8 +16,9 @@ use Rattle.gs_calendar.specs.Due.{Key}
 use Rattle.gs_calendar.specs.Course.{Course, course_of}
 use Rattle.gs_calendar.specs.Calendar.{sent_at}
 use Rattle.gs_calendar.specs.Due.{key_cmp}
-use Rattle.gs_calendar.specs.inside.Transits.{Has}
-use Rattle.gs_calendar.specs.inside.Feeds.{waiting, Grows, HasSent, HasSentAll, IsReadFor, sent_to}
+use Rattle.gs_calendar.specs.Transits.{Has}
+use Rattle.gs_calendar.specs.inside.Feeds.{waiting, Grows, HasSent, HasSentAll, sent_to}
+use Rattle.gs_calendar.specs.Scripts.{IsReadFor}
 use Rattle.gs_calendar.proofs.Fitting.{IsCourse, adjacent_said, fits, near, same_nodes}
 use Rattle.gs_calendar.proofs.Growing.{grows_on, grows_put, grows_refl, lost_sent, none_sent, put_sent, sent_stays, sent_transit}
 use Rattle.gs_calendar.proofs.Turns.{other_sends, same_sends, turn_next, turn_within}

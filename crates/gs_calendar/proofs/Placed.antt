@@ -6,7 +6,7 @@ use Rattle.std.specs.declared.cmp.Ordering.TheVariants.{Less, Equal, Greater}
 use Rattle.std.proofs.lemmas.Bool.{cases_order, lt-ltb, le-ltb, eq-eqb, ne_eqb}
 use Rattle.gs_calendar.specs.Due.{Key}
 use Rattle.gs_calendar.specs.Due.{key_cmp}
-use Rattle.gs_calendar.specs.inside.Transits.{Has, Before, AllBehind, AreInOrder}
+use Rattle.gs_calendar.specs.Transits.{Has, Before, AllBehind, AreInOrder}
 use Rattle.gs_calendar.proofs.Sorted.{behind_has, before_on}
 use Rattle.gs_calendar.proofs.Waiting.{behind_all}
 

@@ -3,7 +3,7 @@ use Rattle.std.proofs.Common.{◌≡◌, ℕ, ◌<◌, ◌≤◌, nat_le, ◌⊎
 use Rattle.std.proofs.lemmas.Bool.{cases_Bool, le-leb, leb-true, leb-false}
 use Rattle.gs_calendar.specs.Due.{Key}
 use Rattle.gs_calendar.specs.Due.{due_by, due_after}
-use Rattle.gs_calendar.specs.inside.Transits.{Has, Before, AllBehind, AreInOrder}
+use Rattle.gs_calendar.specs.Transits.{Has, Before, AllBehind, AreInOrder}
 
 pub never_itself : (x : Key) → Before x x → ⊥
 unfolding Before

@@ -11,7 +11,7 @@ use Rattle.gs_calendar.specs.Calendar.{coming, arrivals}
 use Rattle.gs_calendar.specs.Events.{deliveries, deliveries_to}
 use Rattle.gs_calendar.specs.Due.{due_by, due_after}
 use Rattle.gs_calendar.specs.inside.Feeds.{deliver_all}
-use Rattle.gs_calendar.specs.inside.Transits.{Has, Before, AllBehind, AreInOrder, Comes, InTransit, IsCovering}
+use Rattle.gs_calendar.specs.Transits.{Has, Before, AllBehind, AreInOrder, Comes, InTransit, IsCovering}
 use Rattle.gs_calendar.proofs.Lists.{has_more, has_left, has_right, Ascend, ascending}
 use Rattle.gs_calendar.proofs.Sorted.{behind_has, same_by_has, by_in_order, after_in_order, has_by, by_has, has_after, after_has}
 use Rattle.gs_calendar.proofs.Comings.{comes_later, coming_has, has_coming, SeqsRise, coming_rises}

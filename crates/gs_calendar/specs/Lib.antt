@@ -3,7 +3,6 @@ pub mod Calendar
 pub mod Losses
 pub mod Events
 pub mod Due
-pub mod Seen
 pub mod Breach
 pub mod Calm
 pub mod Scripts
@@ -11,4 +10,5 @@ pub mod Stale
 pub mod Laws
 pub mod Stops
 pub mod StopTexts
+pub mod Transits
 pub mod inside

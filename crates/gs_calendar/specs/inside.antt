@@ -1,5 +1,5 @@
--- What the code's own types stand for: the contracts of the crates above and proofs speak of it, and no headline does.
+-- What private functions and proofs speak of: no public contract rests on it.
 pub mod Keys
-pub mod Transits
 pub mod Feeds
 pub mod Coming
+pub mod Seen

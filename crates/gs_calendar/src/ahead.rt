@@ -7,7 +7,7 @@ ghost use Rattle.gs_script.specs.Lasts.{Lasts};
 ghost use Rattle.gs_script.specs.Script.{gap_of, inc_of};
 ghost use Rattle.gs_calendar.specs.Course.{Course, course_of};
 ghost use Rattle.gs_calendar.specs.Events.{incs_at};
-ghost use Rattle.gs_calendar.specs.inside.Feeds.{IsReadFor};
+ghost use Rattle.gs_calendar.specs.Scripts.{IsReadFor};
 ghost use Rattle.gs_calendar.specs.inside.Coming.{AreAhead, IsAhead};
 
 use gs_core::Incs;

@@ -46,7 +46,7 @@ pub struct Feed<'p> {
 impl<'p> Model for Feed<'p> {
     ghost use Rattle.std.specs.Prelude.{List};
     ghost use Rattle.gs_core.specs.declared.event.Event.{Event};
-    ghost use Rattle.gs_calendar.specs.Seen.{IsInside, left_in};
+    ghost use Rattle.gs_calendar.specs.inside.Seen.{IsInside, left_in};
 
     ghost Value = { List Event };
 

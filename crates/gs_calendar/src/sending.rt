@@ -7,7 +7,8 @@ ghost use Rattle.gs_run.specs.Nets.{net_of};
 ghost use Rattle.gs_calendar.specs.Calendar.{sent_at, turn};
 ghost use Rattle.gs_calendar.specs.Course.{Course, course_of};
 ghost use Rattle.gs_calendar.specs.inside.Coming.{AreAhead};
-ghost use Rattle.gs_calendar.specs.inside.Feeds.{AllSent, AreTurns, Grows, HasSentAll, IsReadFor, sent_to};
+ghost use Rattle.gs_calendar.specs.inside.Feeds.{AllSent, AreTurns, Grows, HasSentAll, sent_to};
+ghost use Rattle.gs_calendar.specs.Scripts.{IsReadFor};
 
 use crate::ahead::Ahead;
 use crate::transit::{InTransit, Transit};

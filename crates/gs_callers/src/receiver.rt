@@ -198,7 +198,7 @@ fn deliver<R: Wait, C: Clock>(
     Ok(())
 }
 
-/// Whether to stop after so many datagrams since the last look at the board.
+/// Whether to stop after `since` datagrams, counted from the last look at the board.
 fn stop_after<R: Wait, C: Clock>(rt: &R, board: &Shared<C>, stop: Stop, since: u32) -> Stop
     ensures { IsAfter stop since result }
 {

@@ -36,7 +36,7 @@ pub enum TimerStop {
     Publish,
 }
 
-/// Takes so many turns as the timer of a node, and stops at the first that is cut off. A turn rests for
+/// Takes `ticks` turns as the timer of a node, and stops at the first that is cut off. A turn rests for
 /// `pace` units, ticks the board under its lock, sends the beacon that the tick gave over each link, and
 /// publishes the tick's snap.
 pub fn run_turns<R: Wait, C: Clock, O: Outlet, G: Gate>(

@@ -1,4 +1,5 @@
 pub mod Answers
 pub mod Statuses
 pub mod Words
-pub mod inside
+pub mod Reply
+pub mod Stops

@@ -18,7 +18,7 @@ pub enum Reply {
 }
 
 impl Reply {
-    ghost use Rattle.gs_cli.specs.inside.Reply.{answer_in};
+    ghost use Rattle.gs_cli.specs.Reply.{answer_in};
 
     /// A line of two words, of which the first ends with its own space.
     pub fn line_of(

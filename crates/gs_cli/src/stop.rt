@@ -16,7 +16,7 @@ pub enum Stop {
 
 impl Stop {
     ghost use Rattle.gs_cli.specs.Answers.{line};
-    ghost use Rattle.gs_cli.specs.inside.Stops.{StopsWith};
+    ghost use Rattle.gs_cli.specs.Stops.{StopsWith};
 
     /// A refusal by a line of two words, of which the first ends with its own space; `OutOfMemory` where
     /// there is no memory for the line.

@@ -69,7 +69,7 @@ impl Clock for MemClock {
     }
 }
 
-// The place of the reading that comes after this one: the last one comes again.
+/// The place of the reading that comes after this one: the last one comes again.
 fn place_after(readings: &[u64], at: usize) -> usize
     requires { at < length readings.now }
     ensures rest { drop result readings.now ≡ rest_of (drop at readings.now) }

@@ -41,7 +41,7 @@ impl<R: time::Clock + Copy> MonoClock<R> {
         }
     }
 
-    // The nanoseconds since the origin.
+    /// The nanoseconds since the origin.
     fn elapsed(&self) -> Result<u64, Failed>
         ensures no_origin { origin_of self.now ≡ None → IsErr result }
     {
@@ -71,7 +71,7 @@ impl<R: time::Clock + Copy + Drop> Clock for MonoClock<R> {
     }
 }
 
-// The nanoseconds from one moment to another, 0 where that is not later. After 2^64 it fails.
+/// The nanoseconds from one moment to another, 0 where that is not later. After 2^64 it fails.
 fn nanos_between(origin: Instant, now: Instant) -> Result<u64, Failed>
     ensures { IfOk result (λ n. n ≡ instant_nanos now - instant_nanos origin) }
 {

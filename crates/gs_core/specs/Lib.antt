@@ -2,5 +2,5 @@ pub mod Node
 pub mod Steps
 pub mod Replays
 pub mod State
-pub mod Faults
+pub mod FaultWords
 pub mod inside

@@ -287,7 +287,7 @@ impl Core {
     }
 }
 
-/// Whether the next tick gives a beacon, after so many without one.
+/// Whether the next tick gives a beacon, after `ticks` ticks without one.
 fn is_due(every: u32, ticks: u32) -> bool
     requires { ticks < every }
     ensures { result ≡ nat_le every (ticks + 1) }

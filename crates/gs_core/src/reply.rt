@@ -44,7 +44,7 @@ pub enum CoreFault {
 
 impl fmt::Display for CoreFault {
     ghost use Rattle.std.specs.Prelude.{Some};
-    ghost use Rattle.gs_core.specs.Faults.{why_of};
+    ghost use Rattle.gs_core.specs.FaultWords.{why_of};
 
     ghost output = { λ fault. Some (why_of fault) };
 

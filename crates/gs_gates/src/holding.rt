@@ -17,7 +17,7 @@ impl HoldGate {
         HoldGate::within(TURNS)
     }
 
-    /// A gate that holds a rest for so many turns at most.
+    /// A gate that holds a rest for `turns` turns at most.
     pub(crate) fn within(turns: u64) -> Self {
         HoldGate {
             turns,

@@ -18,7 +18,7 @@ impl Rendezvous {
         Rendezvous::within(TURNS)
     }
 
-    /// A gate that holds piece 0 for so many turns at most.
+    /// A gate that holds piece 0 for `turns` turns at most.
     pub(crate) fn within(turns: u64) -> Self {
         Rendezvous {
             turns,

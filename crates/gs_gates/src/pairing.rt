@@ -18,7 +18,7 @@ impl PairGate {
         PairGate::within(TURNS)
     }
 
-    /// A gate that holds a piece for so many turns at most.
+    /// A gate that holds a piece for `turns` turns at most.
     pub fn within(turns: u64) -> Self {
         PairGate {
             turns,

@@ -55,7 +55,7 @@ fn pairs_one_after_another_do_not_meet(rt: HostRuntime) {
     assert_eq!(rt; gate.met(), 0);
 }
 
-// Rests while another thread waits for the rest and then sets the flag. Tells whether it saw one.
+/// Rests while another thread waits for the rest and then sets the flag. Tells whether it saw one.
 fn rest_until_set<R: Threads>(rt: &R, gate: &HoldGate) -> bool {
     join(
         rt,

@@ -8,11 +8,11 @@ use Rattle.gs_script.specs.Script.{Said}
 use Rattle.gs_cli.specs.Answers.{Answer}
 use Rattle.gs_inputs.specs.Inputs.{AreNoInputs, IsAnswerOver}
 use Rattle.gs_inputs.specs.Plans.{plan_in}
-use Rattle.gs_cli.specs.inside.Reply.{answer_in}
+use Rattle.gs_cli.specs.Reply.{answer_in}
 use Rattle.gs_inputs.specs.Scripts.{script_in}
-use Rattle.gs_inputs.specs.inside.SourceSeen.{AreRefused}
+use Rattle.gs_inputs.specs.SourceSeen.{AreRefused}
 use Rattle.gs_inputs.specs.Sources.{FilesSeen, Source, Count, Text, HasFailed, IsRead, IsUnread, seen}
-use Rattle.gs_cli.specs.inside.Stops.{EndsWith, StopsAt, StopsWith}
+use Rattle.gs_cli.specs.Stops.{EndsWith, StopsAt, StopsWith}
 use Rattle.gs_cli.specs.declared.reply.Reply.{Reply}
 use Rattle.gs_inputs.specs.declared.source.Kind.{Kind}
 use Rattle.gs_inputs.specs.declared.source.Kind.TheVariants as kind

@@ -3,4 +3,4 @@ pub mod Inputs
 pub mod Plans
 pub mod Scripts
 pub mod Sources
-pub mod inside
+pub mod SourceSeen

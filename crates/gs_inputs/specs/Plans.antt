@@ -2,11 +2,11 @@
 use Rattle.std.specs.Prelude.{ℕ, ◌-◌, ◌^◌, List, ◌++◌, Option, Some, None, Result, Ok, Err, codes, decimal}
 use Rattle.gs_planfile.specs.Meaning.{plan_of}
 use Rattle.gs_planfile.specs.Texts.{base_text}
-use Rattle.gs_planfile.specs.Words.{why_of as file_why}
+use Rattle.gs_planfile.specs.FaultWords.{why_of as file_why}
 use Rattle.gs_planfile.specs.declared.key.PlanFileFault.{PlanFileFault}
 use Rattle.gs_planfile.specs.declared.text.PlanText.{PlanText}
 use Rattle.gs_plan.specs.Faults.{plan_fault}
-use Rattle.gs_plan.specs.Words.{why_of as plan_why}
+use Rattle.gs_plan.specs.FaultWords.{why_of as plan_why}
 use Rattle.gs_plan.specs.declared.fault.PlanFault.{PlanFault}
 use Rattle.gs_cli.specs.Answers.{Answer, line}
 use Rattle.gs_cli.specs.Words.{number_within}

@@ -1,7 +1,7 @@
 -- The script of what a SCRIPT word was read as, and what refuses it.
 use Rattle.std.specs.Prelude.{ℕ, ◌-◌, ◌^◌, List, ◌++◌, Option, Some, None, Result, Ok, Err, codes}
 use Rattle.gs_planfile.specs.declared.text.PlanText.{PlanText}
-use Rattle.gs_script.specs.Faults.{why_of}
+use Rattle.gs_script.specs.FaultWords.{why_of}
 use Rattle.gs_script.specs.Reading.{script_of, steady_of}
 use Rattle.gs_script.specs.Script.{Said}
 use Rattle.gs_script.specs.declared.fault.ScriptFault.{ScriptFault}

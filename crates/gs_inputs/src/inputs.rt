@@ -7,9 +7,9 @@ ghost use Rattle.gs_plan.specs.Plans.{text_of};
 ghost use Rattle.gs_inputs.specs.Inputs.{AreNoInputs, IsNoPlan, IsPlan, IsScriptFor};
 ghost use Rattle.gs_inputs.specs.Plans.{plan_in};
 ghost use Rattle.gs_inputs.specs.Scripts.{script_in};
-ghost use Rattle.gs_inputs.specs.inside.SourceSeen.{AreRefused, source_in};
+ghost use Rattle.gs_inputs.specs.SourceSeen.{AreRefused, source_in};
 ghost use Rattle.gs_inputs.specs.Sources.{are_built_in, is_built_in, seen};
-ghost use Rattle.gs_cli.specs.inside.Stops.{StopsWith};
+ghost use Rattle.gs_cli.specs.Stops.{StopsWith};
 
 use crate::plans::plan_in;
 use crate::scripts::script_in;

@@ -7,9 +7,9 @@ ghost use Rattle.gs_plan.specs.Faults.{plan_fault};
 ghost use Rattle.gs_plan.specs.Plans.{text_of};
 ghost use Rattle.gs_cli.specs.Words.{number_within};
 ghost use Rattle.gs_inputs.specs.Plans.{accepted, base_from, node_refused, parsed, plan_in, refused, text_from};
-ghost use Rattle.gs_inputs.specs.inside.SourceSeen.{source_in};
-ghost use Rattle.gs_cli.specs.inside.Reply.{answer_in};
-ghost use Rattle.gs_cli.specs.inside.Stops.{StopsAt, StopsWith};
+ghost use Rattle.gs_inputs.specs.SourceSeen.{source_in};
+ghost use Rattle.gs_cli.specs.Reply.{answer_in};
+ghost use Rattle.gs_cli.specs.Stops.{StopsAt, StopsWith};
 
 use crate::source::Source;
 use gs_cli::{Reply, Status, Stop, number_within};

@@ -3,12 +3,12 @@
 
 ghost use Rattle.std.specs.Prelude.{◌≡◌, ◌-◌, ◌^◌, IfOk, IfErr, Ok};
 ghost use Rattle.gs_plan.specs.Plans.{text_of};
-ghost use Rattle.gs_script.specs.Faults.{why_of};
+ghost use Rattle.gs_script.specs.FaultWords.{why_of};
 ghost use Rattle.gs_script.specs.Reading.{script_of};
 ghost use Rattle.gs_cli.specs.Words.{number_within};
 ghost use Rattle.gs_inputs.specs.Scripts.{said_from, script_in, script_refused, steady_from};
-ghost use Rattle.gs_inputs.specs.inside.SourceSeen.{source_in};
-ghost use Rattle.gs_cli.specs.inside.Stops.{StopsAt, StopsWith};
+ghost use Rattle.gs_inputs.specs.SourceSeen.{source_in};
+ghost use Rattle.gs_cli.specs.Stops.{StopsAt, StopsWith};
 
 use crate::source::Source;
 use gs_cli::{Status, Stop, number_within};

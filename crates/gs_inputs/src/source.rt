@@ -2,9 +2,9 @@
 
 ghost use Rattle.std.specs.Prelude.{◌≡◌, ◌≤◌, ℕ, List, IfOk, IfErr, Some, None, true};
 ghost use Rattle.std.specs.Prelude.{option_map, if◌then◌else◌, drop, length};
-ghost use Rattle.gs_inputs.specs.inside.SourceSeen.{source_in};
+ghost use Rattle.gs_inputs.specs.SourceSeen.{source_in};
 ghost use Rattle.gs_inputs.specs.Sources.{IsFault, IsFile, IsRead, IsUnread, is_built_in, prefix_of, seen};
-ghost use Rattle.gs_cli.specs.inside.Stops.{StopsWith};
+ghost use Rattle.gs_cli.specs.Stops.{StopsWith};
 
 use gs_cli::{Status, Stop};
 use gs_io::{FileStop, Files};

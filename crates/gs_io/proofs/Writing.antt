@@ -24,7 +24,7 @@ kept None new is = tt
 kept (Some held) None is = absurd is
 kept (Some held) (Some now) is = ap Some (is ∙ sym (append-nil held))
 
--- a front of a text that ends within one of its pieces
+-- a prefix of a text that ends within one of its pieces
 pub then_appends_front : (old mid new : Option (List ℕ)) (text front piece after : List ℕ) → text ≡ front ++ (piece ++ after)
     → Appends old mid front → AppendsFront mid new piece → AppendsFront old new text
 then_appends_front old mid new text front piece after whole first second =

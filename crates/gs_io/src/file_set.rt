@@ -94,7 +94,7 @@ impl MemFiles {
         }
     }
 
-    // The file of this name, unless this call is to fail.
+    /// The file of this name, unless this call is to fail.
     fn found(&self, name: &str) -> Option<&[u8]>
         ensures some { IfSome result (λ bytes. found self.now self.now.calls name.now ≡ Some bytes.now) }
         ensures none { IsNone result → found self.now self.now.calls name.now ≡ None }
@@ -105,7 +105,7 @@ impl MemFiles {
         first_of(&self.files, name)
     }
 
-    // Counts a failed read of this name, or of every name where the name finds no memory.
+    /// Counts a failed read of this name, or of every name where the name finds no memory.
     fn count_failure(&mut self, alloc: Global, name: &str)
         ensures counted { (self.new ≡ with_failure self.old name.now) ⊎ (self.new ≡ with_unrecorded self.old) }
         ensures later { self.old.unrecorded ≤ self.new.unrecorded }
@@ -158,7 +158,7 @@ impl Files for MemFiles {
     }
 }
 
-// The bytes of the first file of this name.
+/// The bytes of the first file of this name.
 fn first_of<'a>(files: &'a [(String, Vec<u8>)], name: &str) -> Option<&'a [u8]>
     ensures first { IfSome result (λ bytes.
         first_named (map (λ file. (string_bytes file.0, file.1.items)) files.now) name.now ≡ Some bytes.now) }
@@ -173,7 +173,7 @@ fn first_of<'a>(files: &'a [(String, Vec<u8>)], name: &str) -> Option<&'a [u8]>
     None
 }
 
-// A copy of bytes of which there are at most `most`.
+/// A copy of bytes of which there are at most `most`.
 fn copy_of(alloc: Global, bytes: &[u8], most: u64) -> Result<Vec<u8>, FileStop>
     ensures bytes { IfOk result (λ copy. copy.items ≡ bytes.now) }
     ensures at_most { OnOk result (length bytes.now ≤ most) }
@@ -187,7 +187,7 @@ fn copy_of(alloc: Global, bytes: &[u8], most: u64) -> Result<Vec<u8>, FileStop>
     Vec::from_slice(alloc, bytes).map_err(|_| FileStop::OutOfMemory)
 }
 
-// Keeps the name of a failed read.
+/// Keeps the name of a failed read.
 fn record(alloc: Global, failed: &mut Vec<String>, name: &str) -> Result<(), AllocError>
     ensures ok { OnOk result (map string_bytes failed.new.items ≡ map string_bytes failed.old.items ++ name.now ∷ []) }
     ensures err { OnErr result (failed.new.items ≡ failed.old.items) }
@@ -237,7 +237,7 @@ impl<R: Disk> Files for OsFiles<R> {
     }
 }
 
-// All bytes of what was opened, if it was.
+/// All bytes of what was opened, if it was.
 pub(crate) fn read_opened<F: Read + Drop>(
     alloc: Global,
     opened: io::Result<F>,
@@ -259,7 +259,7 @@ pub(crate) fn read_opened<F: Read + Drop>(
     }
 }
 
-// All bytes that a reader gives, of which there are at most `most`. It reads one more at most.
+/// All bytes that a reader gives, of which there are at most `most`. It reads one more at most.
 fn read_all<F: Read + Drop>(alloc: Global, file: F, most: u64) -> Result<Vec<u8>, FileStop>
     ensures bytes { IfOk result (λ bytes. IfSome (F.remaining file) (λ told. bytes.items ≡ told)) }
     ensures at_most { IfOk result (λ bytes. length bytes.items ≤ most) }
@@ -276,7 +276,7 @@ fn read_all<F: Read + Drop>(alloc: Global, file: F, most: u64) -> Result<Vec<u8>
     Ok(bytes)
 }
 
-// Want of memory goes by the kind of the fault alone.
+/// Running out of memory is told by the kind of the fault alone.
 fn stop_at(fault: &io::Error) -> FileStop
     ensures memory { error_kind fault.now ≡ ErrorKind.OutOfMemory → result ≡ FileStop.OutOfMemory }
     ensures failed { error_kind fault.now ≢ ErrorKind.OutOfMemory → result ≡ FileStop.Failed }

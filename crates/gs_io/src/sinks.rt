@@ -19,7 +19,7 @@ pub trait Sink {
     /// How often it has failed.
     ghost faults: { Self → ℕ };
 
-    /// Appends the piece. After `Failed` the sink holds what it held and a front of the piece.
+    /// Appends the piece. After `Failed` the sink holds what it held and a prefix of the piece.
     fn write(&mut self, piece: &[u8]) -> Result<(), Failed>
         ensures ok { OnOk result (Appends (bytes self.old) (bytes self.new) piece.now) }
         ensures err { OnErr result (AppendsFront (bytes self.old) (bytes self.new) piece.now) }
@@ -42,7 +42,7 @@ pub fn write_lines<K: Sink>(out: &mut K, text: &[u8]) -> Result<(), Failed>
     Ok(())
 }
 
-// The first line with its line feed, and what comes after it.
+/// The first line with its line feed, and what comes after it.
 fn split_line(text: &[u8]) -> (&[u8], &[u8])
     requires { 0 < length text.now }
     ensures whole { text.now ≡ result.0.now ++ result.1.now }
@@ -52,7 +52,7 @@ fn split_line(text: &[u8]) -> (&[u8], &[u8])
     text.split_at(line_len(text))
 }
 
-// How many bytes the first line has, with its line feed.
+/// How many bytes the first line has, with its line feed.
 #[tactic(auto, using(crate::proofs::Lines::line_ends))]
 fn line_len(text: &[u8]) -> usize
     requires { 0 < length text.now }
@@ -74,7 +74,7 @@ fn line_feed(text: &[u8]) -> Option<usize>
 }
 
 /// A sink in memory. The calls whose numbers it was given, from 1, fail and keep nothing of their
-/// piece. Want of memory is a fault like any other.
+/// piece. Running out of memory is a fault like any other.
 #[derive(Drop)]
 pub struct MemSink {
     held: Vec<u8>,
@@ -194,7 +194,7 @@ impl<W: Write> Sink for StdSink<W> {
     }
 }
 
-// Writes a piece of any length, and has it leave each buffer.
+/// Writes a piece of any length, and has it leave each buffer.
 fn write_whole<W: Write>(stream: &mut W, piece: &[u8]) -> Result<(), Failed>
     ensures ok { OnOk result (Appends (W.contents stream.old) (W.contents stream.new) piece.now) }
     ensures err { OnErr result
@@ -208,8 +208,8 @@ fn write_whole<W: Write>(stream: &mut W, piece: &[u8]) -> Result<(), Failed>
     stream.flush().map_err(|_| Failed)
 }
 
-// How many bytes of a piece one write took. A write that takes none has failed, and one that a
-// signal interrupts is tried again.
+/// How many bytes of a piece one write took. A write that takes none has failed, and one that a
+/// signal interrupts is tried again.
 fn write_some<W: Write>(stream: &mut W, piece: &[u8]) -> Result<usize, Failed>
     ensures some { IfOk result (λ n. 0 < n) }
     ensures at_most { IfOk result (λ n. n ≤ length piece.now) }

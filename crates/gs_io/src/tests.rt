@@ -151,7 +151,7 @@ fn gave(got: Result<Vec<u8>, FileStop>, want: Result<&[u8], FileStop>) -> bool {
 }
 
 #[test]
-fn files_in_memory(rt: HostRuntime) -> Result<(), AllocError> {
+fn a_read_in_memory_gives_its_file_or_fails(rt: HostRuntime) -> Result<(), AllocError> {
     let alloc = rt.alloc();
     let mut files = MemFiles::new(alloc, two_files(alloc)?, vec![in alloc; 6]?);
     let reads = [
@@ -185,7 +185,7 @@ impl Read for Faulty {
 }
 
 #[test]
-fn a_reader_that_gives_its_bytes_in_parts(rt: HostRuntime) {
+fn a_reader_may_give_its_bytes_in_parts(rt: HostRuntime) {
     let alloc = rt.alloc();
     for (kind, most, want) in [
         (ErrorKind::Interrupted, 7, Ok(b"seven b".as_slice())),
@@ -203,7 +203,7 @@ fn a_reader_that_gives_its_bytes_in_parts(rt: HostRuntime) {
 }
 
 #[test]
-fn files_of_the_machine(rt: HostRuntime) -> Result<(), AllocError> {
+fn a_read_of_the_machine_gives_its_file_or_fails(rt: HostRuntime) -> Result<(), AllocError> {
     let alloc = rt.alloc();
     let temp = env::temp_dir(&rt).expect(&rt, "a folder for temporary files");
     let folder = format!(in alloc; "{}/gs_io_{}", temp.display(), process::id(rt.process()))?;

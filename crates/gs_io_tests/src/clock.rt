@@ -6,7 +6,9 @@ use std::thread;
 use std::time::{self, Duration};
 
 #[test]
-fn readings_in_memory(rt: HostRuntime) -> Result<(), AllocError> {
+fn the_last_reading_comes_again_and_a_failed_call_takes_none(
+    rt: HostRuntime,
+) -> Result<(), AllocError> {
     let alloc = rt.alloc();
     let mut readings = vec![in alloc; 7]?;
     readings.push(5)?;

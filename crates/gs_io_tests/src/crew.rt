@@ -24,7 +24,7 @@ impl Task for Runner {
     }
 }
 
-// Starts a task and joins it. Tells whether it was started, and gives it back.
+/// Starts a task and joins it. Tells whether it was started, and gives it back.
 fn start_and_join<'s, 'e: 's, R: Threads + 'e, W: Crew>(
     rt: &'e R,
     scope: &Scope<'s, &'e ()>,
@@ -42,7 +42,7 @@ fn start_and_join<'s, 'e: 's, R: Threads + 'e, W: Crew>(
     }
 }
 
-// How many of five starts were made, and how many tasks ran, once each.
+/// How many of five starts were made, and how many tasks ran, once each.
 fn five_starts<R: Threads + Wait + Sync, W: Crew>(rt: &R, crew: &mut W) -> (u32, u32) {
     thread::scope(thread::scope_env(), rt, move |scope| {
         let mut started = 0u32;
@@ -96,7 +96,7 @@ impl Task for Meeting<'_> {
     }
 }
 
-// Starts two tasks that wait for one another, and tells whether they met.
+/// Starts two tasks that wait for one another, and tells whether they met.
 fn two_meet<'s, 'e: 's, R: Threads + 'e, W: Crew>(
     rt: &'e R,
     scope: &Scope<'s, &'e ()>,

@@ -5,12 +5,12 @@ use gs_net::{
 };
 use std::alloc::{AllocError, Global};
 
-// A datagram of so many bytes, each of which has this value.
+/// A datagram of so many bytes, each of which has this value.
 fn datagram(alloc: Global, value: u8, len: usize) -> Result<Item, AllocError> {
     Ok(Item::Datagram(Payload::from_vec(vec![in alloc; value; len]?)))
 }
 
-// A datagram of 3 bytes, a quiet mark, and a datagram of 70 bytes.
+/// A datagram of 3 bytes, a quiet mark, and a datagram of 70 bytes.
 fn three_items(alloc: Global) -> Result<Vec<Item>, AllocError> {
     let mut items = Vec::new(alloc);
     items.push(datagram(alloc, 1, 3)?)?;
@@ -61,7 +61,7 @@ fn an_outlet_keeps_what_it_takes(rt: HostRuntime) -> Result<(), AllocError> {
     Ok(())
 }
 
-// What is held for two ports, one of which is given twice.
+/// What is held for two ports, one of which is given twice.
 fn held_thrice(alloc: Global) -> Result<Vec<Held>, AllocError> {
     let mut held = Vec::new(alloc);
     for (port, value) in [(40_000, 1), (40_001, 2), (40_000, 3)] {
@@ -76,7 +76,7 @@ fn held_thrice(alloc: Global) -> Result<Vec<Held>, AllocError> {
     Ok(held)
 }
 
-// Lends an inlet, takes one item from it, and takes it back. Tells the first byte of the item.
+/// Lends an inlet, takes one item from it, and takes it back. Tells the first byte of the item.
 fn first_byte<P: Ports>(ports: &mut P, alloc: Global, port: u16) -> Result<Option<u8>, LinkStop> {
     let mut inlet = ports.inlet(alloc, port)?;
     let mut into = [0u8; 64];
@@ -110,7 +110,7 @@ fn ports_lend_what_they_hold(rt: HostRuntime) -> Result<(), AllocError> {
     Ok(())
 }
 
-// Lends an outlet and a door, fails each once, and takes them back.
+/// Lends an outlet and a door, fails each once, and takes them back.
 fn fail_each<P: Ports>(ports: &mut P, alloc: Global) -> Result<bool, LinkStop> {
     let mut outlet = ports.outlet(alloc, &[(1, 40_003), (2, 40_004)])?;
     let Ok(mut door) = ports.door(alloc, 40_001) else {

@@ -59,7 +59,7 @@ fn crashes_at_each_moment(rt: HostRuntime) -> Result<(), AllocError> {
 }
 
 #[test]
-fn refuses_in_order(rt: HostRuntime) -> Result<(), AllocError> {
+fn full_comes_at_the_end_and_closed_after_a_failure(rt: HostRuntime) -> Result<(), AllocError> {
     let alloc = rt.alloc();
     let most = (1 << 62) - 1_048_577;
     let store = MemStore::new(alloc, [0; 18], vec![in alloc; 7]?);
@@ -86,7 +86,7 @@ fn refuses_in_order(rt: HostRuntime) -> Result<(), AllocError> {
 }
 
 #[test]
-fn does_not_open(rt: HostRuntime) -> Result<(), AllocError> {
+fn a_store_that_fails_or_is_full_is_not_opened(rt: HostRuntime) -> Result<(), AllocError> {
     let alloc = rt.alloc();
     for failing in [1, 2] {
         let store = MemStore::new(alloc, TWO_RUNS, vec![in alloc; failing]?);
@@ -101,7 +101,7 @@ fn does_not_open(rt: HostRuntime) -> Result<(), AllocError> {
 }
 
 #[test]
-fn in_a_file(rt: HostRuntime) -> Result<(), AllocError> {
+fn stamps_go_on_in_a_file_where_the_run_before_left_it(rt: HostRuntime) -> Result<(), AllocError> {
     let alloc = rt.alloc();
     let temp = env::temp_dir(&rt).expect(&rt, "a folder for temporary files");
     let name = format!(in alloc; "{}/gs_stamp_{}", temp.display(), process::id(rt.process()))?;

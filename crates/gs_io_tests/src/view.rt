@@ -44,7 +44,7 @@ fn a_fast_clock_is_boosted(rt: HostRuntime) -> Result<(), Fail> {
     Ok(())
 }
 
-// The answers after the publisher's end: before a note, after the newer of two, after the older one.
+/// The answers after the publisher's end: before a note, after the newer of two, after the older one.
 fn answers_after_the_end<R: Wait>(
     rt: &R,
     alloc: Global,
@@ -81,7 +81,7 @@ fn another_reader_knows_what_was_published(rt: HostRuntime) -> Result<(), Fail> 
     Ok(())
 }
 
-// Publishes one snap after the other and keeps the notes, and tells the place that was published last.
+/// Publishes one snap after the other and keeps the notes, and tells the place that was published last.
 fn published_with_notes_kept<R: Wait>(
     rt: &R,
     alloc: Global,
@@ -106,7 +106,7 @@ fn notes_that_are_kept_take_places(rt: HostRuntime) -> Result<(), Fail> {
     Ok(())
 }
 
-// Asks until the clock is 1000, or for long enough. Tells how often it fell, and the last answer.
+/// Asks until the clock is 1000, or for long enough. Tells how often it fell, and the last answer.
 fn watch(mut reader: Reader) -> (u64, u64) {
     let mut falls = 0u64;
     let mut last = 0;

@@ -66,7 +66,7 @@ impl<S: Socket> Outlet for SocketOutlet<S> {
     }
 }
 
-// The port that was given for this neighbour first.
+/// The port that was given for this neighbour first.
 fn port_of(routes: &[(u32, u16)], neighbour: u32) -> Option<u16>
     ensures { result ≡ port_of routes.now neighbour }
 {

@@ -12,7 +12,7 @@ use std::sync::atomic::{AtomicBool, Ordering};
 use std::test::Fail;
 use std::thread::join;
 
-// The port of 127.0.0.1 at which this receives, or 0 where it is bound to another address.
+/// The port of 127.0.0.1 at which this receives, or 0 where it is bound to another address.
 fn port_of(address: io::Result<SocketAddr>) -> u16 {
     match address {
         Ok(address) if address.ip() == IpAddr::V4(Ipv4Addr::LOCALHOST) => address.port(),
@@ -20,7 +20,7 @@ fn port_of(address: io::Result<SocketAddr>) -> u16 {
     }
 }
 
-// A beacon of sender 3 with sequence 1 and clock 1,000,000, as it is sent.
+/// A beacon of sender 3 with sequence 1 and clock 1,000,000, as it is sent.
 const BEACON: [u8; 40] = [
     0x47, 0x43, 0x53, 0x31, 0, 0, 0, 7, 0, 0, 0, 3, 0, 0, 0, 0, 0, 0, 0, 0, 0, 0, 0, 1, 0, 0, 0, 0,
     0, 0x0f, 0x42, 0x40, 0, 0, 0, 0, 0, 0x0f, 0x42, 0x40,
@@ -134,7 +134,7 @@ fn a_door_answers_who_asked_last(rt: HostRuntime) -> Result<(), Fail> {
 
 const FLOOD: usize = 10_000;
 
-// Sends numbered datagrams as fast as the kernel takes them, and tells how many it took.
+/// Sends numbered datagrams as fast as the kernel takes them, and tells how many it took.
 fn send_all(outlet: &mut UdpOutlet, is_done: &AtomicBool) -> u64 {
     let mut taken = 0u64;
     for number in 0..FLOOD as u32 {
@@ -148,8 +148,8 @@ fn send_all(outlet: &mut UdpOutlet, is_done: &AtomicBool) -> u64 {
     taken
 }
 
-// Takes what comes until all was sent and nothing comes any more. Counts the numbers that came, and
-// nothing where one came twice.
+/// Takes what comes until all was sent and nothing comes any more. Counts the numbers that came, and
+/// nothing where one came twice.
 fn take_all(inlet: &mut UdpInlet, is_done: &AtomicBool) -> u64 {
     let mut came = [false; FLOOD];
     for _ in 0..1_000_000 {
@@ -170,8 +170,8 @@ fn take_all(inlet: &mut UdpInlet, is_done: &AtomicBool) -> u64 {
     came.iter().filter(|came| **came).count() as u64
 }
 
-// How many datagrams the kernel has dropped at this port of 127.0.0.1, since nobody took those before
-// them.
+/// How many datagrams the kernel has dropped at this port of 127.0.0.1, since nobody took those before
+/// them.
 fn dropped_at<D: Disk + Drop>(disk: D, alloc: Global, port: u16) -> Option<u64> {
     let table = OsFiles::new(disk)
         .read(alloc, "/proc/net/udp", 1 << 20)

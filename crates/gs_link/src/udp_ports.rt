@@ -46,7 +46,7 @@ impl<R: Net> UdpPorts<R> {
         }
     }
 
-    // Counts a fault.
+    /// Counts a fault.
     fn fault(&mut self) -> LinkStop
         ensures stop { result ≡ LinkStop.Failed }
         ensures counted { self.new ≡ record self.old { faults = counted self.old.faults } }
@@ -57,7 +57,7 @@ impl<R: Net> UdpPorts<R> {
         LinkStop::Failed
     }
 
-    // Counts a fault where a returned object had any.
+    /// Counts a fault where a returned object had any.
     fn count(&mut self, faults: u64)
         ensures rose { 0 < faults → Rose self.old.faults self.new.faults }
         ensures none { faults ≡ 0 → self.new ≡ self.old }

@@ -60,7 +60,7 @@ impl Clone for Item {
 /// What a call of an inlet got.
 #[derive(Clone, Copy, Debug, PartialEq, Eq)]
 pub enum Got {
-    /// A datagram, of which so many bytes were put in front, at most 64. The rest is lost.
+    /// A datagram, of which this many bytes were put in front, at most 64. The rest is lost.
     Datagram(u32),
     /// None was ready.
     Quiet,

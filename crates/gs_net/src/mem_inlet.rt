@@ -103,7 +103,7 @@ impl Inlet for MemInlet {
     }
 }
 
-// What a call gets of an item, with the front of a datagram put in front.
+/// What a call gets of an item, with the front of a datagram put in front.
 fn show(item: &Item, into: &mut [u8; 64]) -> Got
     ensures got { result ≡ got_of (item.now ∷ []) }
     ensures front { Fronts (item.now ∷ []) into.new }
@@ -114,7 +114,7 @@ fn show(item: &Item, into: &mut [u8; 64]) -> Got
     }
 }
 
-// Copies the first 64 bytes.
+/// Copies the first 64 bytes.
 fn copy_front(bytes: &[u8], into: &mut [u8; 64]) -> u32
     ensures count { result ≡ min 64 (length bytes.now) }
     ensures front { take result into.new ≡ take result bytes.now }

@@ -38,7 +38,7 @@ pub struct MemPorts {
 }
 
 impl Model for MemPorts {
-    ghost use Rattle.gs_net.specs.Returns.{back_in_order};
+    ghost use Rattle.gs_net.specs.inside.Returns.{back_in_order};
     ghost use Rattle.gs_net.specs.Pools.{Pool};
 
     ghost Value = { Pool };
@@ -208,7 +208,7 @@ impl Ports for MemPorts {
     }
 }
 
-// A copy of what is held for this port, and nothing where nothing is.
+/// A copy of what is held for this port, and nothing where nothing is.
 fn lot_at(alloc: Global, held: &[Held], port: u16) -> Result<Held, AllocError>
     ensures items { IfOk result (λ lot. lot.items.items ≡ held_at held.now port) }
     ensures fails { IfOk result (λ lot. lot.fails.items ≡ fails_at held.now port) }
@@ -227,7 +227,7 @@ fn lot_at(alloc: Global, held: &[Held], port: u16) -> Result<Held, AllocError>
     }
 }
 
-// What was given for this port first.
+/// What was given for this port first.
 fn first_at(held: &[Held], port: u16) -> Option<&Held>
     ensures items { IfSome result (λ lot. held_at held.now port ≡ lot.now.items.items) }
     ensures fails { IfSome result (λ lot. fails_at held.now port ≡ lot.now.fails.items) }

@@ -28,7 +28,7 @@ pub(crate) struct Returns<I, O, D> {
 impl<I, O, D> Returns<I, O, D> {
     ghost use Rattle.std.specs.Prelude.{◌≡◌, ◌+◌, ◌<◌, [], ◌∷◌, ◌++◌, OnOk, OnErr};
     ghost use Rattle.gs_net.specs.Lending.{doors_in, inlets_in, outlets_in, returned_door, returned_inlet, returned_outlet};
-    ghost use Rattle.gs_net.specs.Returns.{back_in_order};
+    ghost use Rattle.gs_net.specs.inside.Returns.{back_in_order};
 
     /// Nothing is out, and nothing came back.
     pub(crate) fn new(alloc: Global) -> Self

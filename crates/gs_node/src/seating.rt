@@ -9,7 +9,7 @@ use gs_net::Inlet;
 use gs_units::NodeParams;
 use std::alloc::{AllocError, Global};
 
-/// All that wants memory before the first thread: the seats, a copy of the parameters, and lists for what
+/// All that takes memory before the first thread: the seats, a copy of the parameters, and lists for what
 /// comes back.
 pub(crate) struct Ready<C: Clock, I: Inlet> {
     pub timer: Seat<C>,
@@ -20,7 +20,7 @@ pub(crate) struct Ready<C: Clock, I: Inlet> {
     pub all: Vec<Seat<C>>,
 }
 
-/// Makes ready for so many inlets. The seats come last, so that a refusal of any kind leaves none.
+/// Makes ready for `count` inlets. The seats come last, so that a refusal of any kind leaves none.
 pub(crate) fn prepare<C: Clock, I: Inlet>(
     alloc: Global,
     board: &mut Board<C>,

@@ -12,7 +12,7 @@ pub appends_none : (held : Option (List ℕ)) → Appends held held []
 appends_none None = tt
 appends_none (Some bytes) = ap (λ (z : List ℕ). Some z) (sym (append-nil bytes))
 
--- a front of the first piece is a front of all
+-- a prefix of the first piece is a prefix of all
 pub front_of_first : (old new : Option (List ℕ)) (piece after : List ℕ) → AppendsFront old new piece → AppendsFront old new (piece ++ after)
 front_of_first old new piece after front = then_appends_front old old new (piece ++ after) [] piece after refl (appends_none old) front
 
@@ -26,7 +26,7 @@ in_parts events i d inside =
     let all : events ≡ (first ++ e ∷ []) ++ rest = sym (take-append-drop (i + 1) events) ∙ ap (λ (z : List NodeEvent). z ++ rest) (take_more events i d inside) in
     ap (flat_map event_bytes) (all ∙ append_assoc first (e ∷ []) rest) ∙ flat_map-append event_bytes first (e ∷ rest)
 
--- and so is a front of a later one, where all before it are written
+-- and so is a prefix of a later one, where all before it are written
 pub front_of_next : (old mid new : Option (List ℕ)) (head : List ℕ) (events : List NodeEvent) (i : ℕ) (d : NodeEvent) → i < length events
     → Appends old mid (head ++ flat_map event_bytes (take i events)) → AppendsFront mid new (event_bytes (get_or events i d))
     → AppendsFront old new (head ++ flat_map event_bytes events)

@@ -2,7 +2,7 @@
 use Rattle.std.proofs.Common.{◌≡◌, ℕ, ◌≤◌, List, Option, Some, inr, sym, subst}
 use Rattle.gs_plan.specs.Plans.{graph_of}
 use Rattle.gs_plan.specs.declared.plan.Plan.{Plan}
-use Rattle.gs_cli.specs.inside.Stops.{StopsWith}
+use Rattle.gs_cli.specs.Stops.{StopsWith}
 use Rattle.gs_cli.specs.declared.stop.Stop.{Stop}
 use Rattle.gs_inputs.specs.Inputs.{IsPlan}
 use Rattle.gs_inputs.specs.Plans.{node_refused}

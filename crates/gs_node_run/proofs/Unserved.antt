@@ -8,8 +8,8 @@ use Rattle.gs_board.specs.declared.faults.BoardStop.TheVariants as board
 use Rattle.gs_cli.specs.declared.status.Status.{Status}
 use Rattle.gs_cli.specs.declared.stop.Stop.{Stop}
 use Rattle.gs_cli.specs.declared.stop.Stop.TheVariants.{Refused, OutOfMemory}
-use Rattle.gs_cli.specs.inside.Reply.{answer_in}
-use Rattle.gs_cli.specs.inside.Stops.{StopsWith}
+use Rattle.gs_cli.specs.Reply.{answer_in}
+use Rattle.gs_cli.specs.Stops.{StopsWith}
 use Rattle.gs_inputs.specs.Sources.{FilesSeen}
 use Rattle.gs_node_run.specs.Lines.{Says}
 use Rattle.gs_node_run.specs.Nodes.{IsRefused}

@@ -16,7 +16,7 @@ use Rattle.gs_cli.specs.Answers.{Answer, line}
 use Rattle.gs_cli.specs.declared.status.Status.{Status}
 use Rattle.gs_cli.specs.declared.status.Status.TheVariants as status
 
--- a text was handed to a sink: all of it, or a front where the sink's count rose
+-- a text was handed to a sink: all of it, or a prefix where the sink's count rose
 abbrev pub Says : List ℕ → Option (List ℕ) → Option (List ℕ) → ℕ → ℕ → Type 0
 Says text old new before after = Appends old new text ⊎ (AppendsFront old new text × Rose before after)
 

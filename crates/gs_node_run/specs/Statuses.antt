@@ -89,7 +89,7 @@ pub record EndsServed (t : Ledger) (seats : List Slip) (n : Faults) (Says : List
   pub answer_is : IsAnswerOf t seats s answer
   pub said : Says answer.text
 
--- a trace was handed to its sink: all of it, or a front where the sink's count rose or memory was refused
+-- a trace was handed to its sink: all of it, or a prefix where the sink's count rose or memory was refused
 abbrev pub IsWritten : List ℕ → Status → Option (List ℕ) → Option (List ℕ) → ℕ → ℕ → Type 0
 IsWritten trace end old new before after =
     Appends old new trace ⊎ (AppendsFront old new trace × ((end ≡ status.OutOfMemory) ⊎ Rose before after))

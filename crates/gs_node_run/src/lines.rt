@@ -1,7 +1,7 @@
 ghost use Rattle.std.specs.Prelude.{◌≡◌, ◌++◌, ◌∷◌, All, IfOk, IfSome, IfNone, codes, decimal, string_bytes};
 ghost use Rattle.gs_board.specs.Boards.{ledger_in};
 ghost use Rattle.gs_board.specs.Torn.{IsWhole};
-ghost use Rattle.gs_cli.specs.inside.Reply.{answer_in};
+ghost use Rattle.gs_cli.specs.Reply.{answer_in};
 ghost use Rattle.gs_node_run.specs.Lines.{IsAnswerOf, IsTornAt, Says, clock_answer, entry_words, event_words, plain_answer, torn_answer, torn_words};
 ghost use Rattle.gs_node_run.specs.inside.Told.{Refuses};
 ghost use Rattle.gs_node_run.specs.inside.Traced.{status_of};

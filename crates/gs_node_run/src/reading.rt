@@ -2,7 +2,7 @@ ghost use Rattle.std.specs.Prelude.{◌≡◌, ◌<◌, ◌≤◌, IfOk, IfErr, 
 ghost use Rattle.gs_units.specs.Params.{AreValid};
 ghost use Rattle.gs_plan.specs.Plans.{graph_of};
 ghost use Rattle.gs_plan.specs.declared.plan.Plan.{Plan};
-ghost use Rattle.gs_cli.specs.inside.Stops.{StopsWith};
+ghost use Rattle.gs_cli.specs.Stops.{StopsWith};
 ghost use Rattle.gs_inputs.specs.Sources.{seen};
 ghost use Rattle.gs_node_run.specs.Nodes.{IsRefused, Names, names_no_file, params_of};
 ghost use Rattle.gs_node_run.specs.Words.{Order, order_of};

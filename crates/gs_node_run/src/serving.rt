@@ -148,7 +148,7 @@ fn conclude<C: Clock, K: Sink, S: Sink>(
     tell_end(alloc, say, status, board, seats)
 }
 
-/// The status of a run that ended so, and whose trace was written so: want of memory for the trace comes
+/// The status of a run that ended so, and whose trace was written so: running out of memory for the trace comes
 /// first, and a fault of it only where all else was done.
 fn status_after(end: End, written: Result<(), TraceStop>) -> Status
     ensures { result ≡ after_trace (status_of end) written }

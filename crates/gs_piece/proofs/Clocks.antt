@@ -11,7 +11,7 @@ use Rattle.gs_script.specs.Script.{Said}
 use Rattle.gs_run.specs.Nets.{net_of}
 use Rattle.gs_run.proofs.PlanNumbers.{plan_has_numbers}
 use Rattle.gs_run.proofs.Reaching.{IsKnown}
-use Rattle.gs_calendar.specs.inside.Feeds.{IsReadFor}
+use Rattle.gs_calendar.specs.Scripts.{IsReadFor}
 use Rattle.gs_run.specs.Fast.{is_fast}
 use Rattle.gs_run.specs.Net.{Net}
 use Rattle.gs_run.specs.World.{Member, member}

@@ -2,7 +2,7 @@
 use Rattle.std.specs.Prelude.{◌≡◌, ◌==◌, ℕ, suc, ◌+◌, ◌<◌, ◌≤◌, nat_lt, if◌then◌else◌, Bool, false, length, slice_index, slice_index_or, slice_set, [], ◌∷◌, ◌++◌}
 use Rattle.gs_run.specs.Fast.{is_fast}
 use Rattle.gs_run.specs.Net.{Net, neighbours}
-use Rattle.gs_calendar.specs.inside.Transits.{Has}
+use Rattle.gs_calendar.specs.Transits.{Has}
 use Rattle.gs_seat.specs.Held.{handed}
 use Rattle.gs_calendar.specs.Course.{Course}
 use Rattle.gs_seat.specs.Seats.{IsSeatAt, has_sent, mode_of, step_of, wake_of}

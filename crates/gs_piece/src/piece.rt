@@ -3,11 +3,11 @@ ghost use Rattle.gs_plan.specs.Plans.{text_of};
 ghost use Rattle.gs_run.specs.Net.{Net, neighbour, neighbours};
 ghost use Rattle.gs_run.specs.Nets.{net_of};
 ghost use Rattle.gs_calendar.specs.Course.{Course, course_of};
-ghost use Rattle.gs_calendar.specs.inside.Feeds.{IsReadFor};
+ghost use Rattle.gs_calendar.specs.Scripts.{IsReadFor};
 ghost use Rattle.gs_calendar.specs.Stale.{breach_upto};
 ghost use Rattle.gs_seat.specs.Held.{AreSentIn, IsWindow};
 ghost use Rattle.gs_calendar.specs.Calendar.{heard_at};
-ghost use Rattle.gs_calendar.specs.inside.Transits.{Has};
+ghost use Rattle.gs_calendar.specs.Transits.{Has};
 ghost use Rattle.gs_piece.specs.Staleness.{FirstIsStale, NoneIsStale};
 ghost use Rattle.gs_piece.specs.Columns.{clock_at};
 ghost use Rattle.gs_piece.specs.Senders.{IsFirstSender, NoneSends};
@@ -67,7 +67,7 @@ impl Piece {
     }
 
     /// Takes the nodes through the window of the `n` quanta after quantum `m`, of which none is a breach.
-    /// It wants no memory.
+    /// It takes no memory.
     pub fn run(&mut self, plan: &Plan, script: &Script, m: u32, n: u32)
         requires read { IsReadFor (text_of plan.now) script.now }
         requires end { m + n ≤ script.now.quanta }

@@ -18,7 +18,7 @@ impl Model for Row {
 }
 
 impl Row {
-    /// The row of so many clocks at 0.
+    /// The row of `count` clocks at 0.
     pub(crate) fn new(alloc: Global, count: usize) -> Result<Row, AllocError>
         ensures { IfOk result (λ r. r ≡ replicate count 0) }
     {

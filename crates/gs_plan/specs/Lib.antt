@@ -5,9 +5,8 @@ pub mod Levels
 pub mod Bounds
 pub mod Faults
 pub mod Accepted
-pub mod Sets
 pub mod Nodes
 pub mod Plans
 pub mod Weights
-pub mod Words
+pub mod FaultWords
 pub mod inside

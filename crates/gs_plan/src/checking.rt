@@ -84,7 +84,7 @@ fn free_edge(
     }
 }
 
-/// No span for any of so many edges.
+/// No span for any of `edges` edges.
 fn no_spans(alloc: Global, edges: usize) -> Result<Vec<Option<EdgeSpan>>, AllocError>
     ensures { IfOk result (λ found. found.items ≡ replicate edges None) }
 {

@@ -44,7 +44,7 @@ pub enum PlanFault {
 
 impl fmt::Display for PlanFault {
     ghost use Rattle.std.specs.Prelude.{Some};
-    ghost use Rattle.gs_plan.specs.Words.{why_of};
+    ghost use Rattle.gs_plan.specs.FaultWords.{why_of};
 
     ghost output = { λ f. Some (why_of f) };
 

@@ -8,7 +8,7 @@ use gs_planfile::PlanText;
 use gs_units::Rate;
 use std::alloc::{AllocError, Global};
 
-// The numbers of a text whose rate was accepted, before its bounds were: words of 128 bits hold
+// The numbers of a text whose rate was accepted, before its bounds were: integers of 128 bits hold
 // them, since `lo` and `hi` are at most 2^30 and all other numbers of a text are below 2^32, but for
 // a given kappa, which is below 2^64. `small` says how far each comes.
 

@@ -3,7 +3,7 @@ ghost use Rattle.gs_units.specs.Rates.{HasNumbers};
 ghost use Rattle.gs_plan.specs.Shapes.{graph_of_text};
 ghost use Rattle.gs_plan.specs.Faults.{plan_fault};
 ghost use Rattle.gs_plan.specs.Numbers.{numbers_of};
-ghost use Rattle.gs_plan.specs.Sets.{graphs-prop, lengths-prop, numbers-prop};
+ghost use Rattle.gs_plan.specs.inside.Sets.{graphs-prop, lengths-prop, numbers-prop};
 ghost use Rattle.gs_plan.specs.inside.Kept.{AreGreatest, AreLevels, AreOwn, lengths_in};
 
 use crate::bounds::{global, greatest_kappa, lambda};

@@ -19,7 +19,7 @@ fn edited(edits: &[(usize, u8)]) -> [u8; LENGTH] {
 }
 
 #[test]
-fn spells_and_reads(rt: HostRuntime) -> Result<(), Fail> {
+fn a_beacon_is_spelled_and_read_back(rt: HostRuntime) -> Result<(), Fail> {
     let beacon = Beacon {
         cluster: 7,
         sender: 3,
@@ -33,7 +33,7 @@ fn spells_and_reads(rt: HostRuntime) -> Result<(), Fail> {
 }
 
 #[test]
-fn names_the_first_fault(rt: HostRuntime) {
+fn the_first_fault_of_a_beacon_is_named(rt: HostRuntime) {
     assert_eq!(rt; decode(&SPELLED[..39]), Err(BeaconFault::Length));
     assert_eq!(rt; decode(&[0; 41]), Err(BeaconFault::Length));
     let cases: [(&[(usize, u8)], BeaconFault); 9] = [

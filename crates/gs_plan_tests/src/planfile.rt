@@ -97,7 +97,7 @@ fn says(alloc: Global, case: &str) -> bool {
 }
 
 #[test]
-fn says_and_migrates(rt: HostRuntime) {
+fn a_plan_file_says_its_text_and_migrates_to_it(rt: HostRuntime) {
     for case in SAID.lines() {
         assert!(rt; says(rt.alloc(), case), "{case}");
     }

@@ -247,7 +247,7 @@ plan_in-reads ms =
 pub faults_at_keys : FaultsAreAtKeys
 faults_at_keys ms fault is = rw is at (plan_in-reads ms)
 
--- so a reader of the keys, whose faults are those or want of memory, never answers a fault of the text
+-- so a reader of the keys, whose faults are those or `OutOfMemory`, never answers a fault of the text
 pub not_of_text : {A : Type 0} (f : PlanFileFault) (r : Result A PlanFileFault) (ms : Members) → (IsFaultOf ms f → ⊥) → f ≢ OutOfMemory
     → IfErr r (λ e. e ≢ OutOfMemory → plan_in ms ≡ Err e) → r ≢ Err f
 not_of_text f r ms other free exact q = other (faults_at_keys ms f ((rw q at exact) free))

@@ -7,4 +7,4 @@ pub mod Shapes
 pub mod Extra
 pub mod Texts
 pub mod Writing
-pub mod Words
+pub mod FaultWords

@@ -97,7 +97,7 @@ pub enum PlanFileFault {
 
 impl fmt::Display for PlanFileFault {
     ghost use Rattle.std.specs.Prelude.{Some};
-    ghost use Rattle.gs_planfile.specs.Words.{why_of};
+    ghost use Rattle.gs_planfile.specs.FaultWords.{why_of};
 
     ghost output = { λ f. Some (why_of f) };
 

@@ -22,7 +22,7 @@ use Rattle.gs_seat.proofs.Turning.{world_agrees}
 use Rattle.gs_piece.specs.Columns.{clock_at}
 use Rattle.gs_piece.proofs.Quanta.{start_clock}
 use Rattle.gs_play.proofs.Gathered.{row_of_all}
-use Rattle.gs_play.specs.Totals.{AreTotals}
+use Rattle.gs_play.specs.inside.Totals.{AreTotals}
 use Rattle.gs_play.specs.declared.totals.Totals.{Totals}
 
 -- a row has a clock for each node

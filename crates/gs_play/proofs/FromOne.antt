@@ -5,7 +5,7 @@ use Rattle.std.proofs.lemmas.Option.{same_Some}
 use Rattle.gs_run.specs.Accepted.{AreNumbers}
 use Rattle.gs_run.specs.Net.{Adjacent, Net, neighbour, neighbours, place_of}
 use Rattle.gs_calendar.specs.Course.{Course}
-use Rattle.gs_calendar.specs.inside.Transits.{Has}
+use Rattle.gs_calendar.specs.Transits.{Has}
 use Rattle.gs_calendar.proofs.Arrivals.{place_is_own}
 use Rattle.gs_calendar.proofs.OnTheWay.{at_has, is_neighbour, neighbour_is}
 use Rattle.gs_seat.specs.Held.{SendsNone, handed}
@@ -17,7 +17,7 @@ use Rattle.gs_piece.specs.Nodes.{AllHanded, handed_to}
 use Rattle.gs_piece.specs.Pieces.{IsPiece}
 use Rattle.gs_piece.specs.declared.piece.Piece.{Piece}
 use Rattle.gs_piece.proofs.Turns.{handed_to_other, handed_to_own, nodes_map}
-use Rattle.gs_play.specs.Pieces.{ArePieces, handed_below}
+use Rattle.gs_play.specs.inside.Pieces.{ArePieces, handed_below}
 
 -- ---- what is known of each seat changes
 

@@ -9,7 +9,7 @@ use Rattle.gs_piece.specs.Nodes.{handed_to}
 use Rattle.gs_piece.specs.Pieces.{IsPiece}
 use Rattle.gs_piece.specs.declared.piece.Piece.{Piece}
 use Rattle.gs_piece.proofs.Turns.{handed_to_other, nodes_map}
-use Rattle.gs_play.specs.Pieces.{ArePieces}
+use Rattle.gs_play.specs.inside.Pieces.{ArePieces}
 use Rattle.gs_play.proofs.Places.{IsIn}
 
 -- the piece of a node is found by a division

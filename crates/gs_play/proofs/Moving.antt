@@ -24,8 +24,8 @@ use Rattle.gs_seat.proofs.Clocks.{next_clock}
 use Rattle.gs_seat.proofs.Aging.{none_before}
 use Rattle.gs_seat.proofs.Reading.{course_is}
 use Rattle.gs_seat.proofs.Turning.{known_at, world_agrees}
-use Rattle.gs_play.specs.Apart.{most_apart}
-use Rattle.gs_play.specs.Totals.{IsCalm}
+use Rattle.gs_play.specs.inside.Apart.{most_apart}
+use Rattle.gs_play.specs.inside.Totals.{IsCalm}
 use Rattle.gs_play.proofs.Counted.{row_count}
 
 -- what has no breach by a quantum has none by an earlier one

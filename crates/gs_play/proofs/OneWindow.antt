@@ -11,9 +11,9 @@ use Rattle.gs_seat.specs.Held.{IsWindow}
 use Rattle.gs_seat.proofs.Aging.{fresh_window}
 use Rattle.gs_piece.specs.Pieces.{IsPieceIn}
 use Rattle.gs_piece.specs.declared.piece.Piece.{Piece}
-use Rattle.gs_play.specs.Pieces.{ArePiecesIn, AreReady, AreRun, HaveRows}
-use Rattle.gs_play.specs.Player.{IsPlayerAt, IsPlayerFor}
-use Rattle.gs_play.specs.Totals.{IsCalm}
+use Rattle.gs_play.specs.inside.Pieces.{ArePiecesIn, AreReady, AreRun, HaveRows}
+use Rattle.gs_play.specs.inside.Player.{IsPlayerAt, IsPlayerFor}
+use Rattle.gs_play.specs.inside.Totals.{IsCalm}
 use Rattle.gs_play.specs.declared.player.Player.{Player}
 use Rattle.gs_play.proofs.Windows.{longest_is}
 

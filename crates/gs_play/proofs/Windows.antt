@@ -10,7 +10,7 @@ use Rattle.gs_plan.specs.declared.plan.Plan.{Plan}
 use Rattle.gs_topo.specs.Graph.{joins}
 use Rattle.gs_run.specs.Nets.{net_of}
 use Rattle.gs_seat.specs.Held.{IsWindow}
-use Rattle.gs_play.specs.Windows.{least_delay, longest_window}
+use Rattle.gs_play.specs.inside.Windows.{least_delay, longest_window}
 
 least_low : (d : ℕ) (ss : List EdgeSpan) → least_delay d ss ≤ d
 least_low d [] = omega arith

@@ -4,7 +4,7 @@ ghost use Rattle.gs_run.specs.Net.{Net};
 ghost use Rattle.gs_run.specs.World.{clocks_in};
 ghost use Rattle.gs_calendar.specs.Course.{Course};
 ghost use Rattle.gs_seat.specs.Worlds.{world_of};
-ghost use Rattle.gs_play.specs.Pieces.{HaveRows};
+ghost use Rattle.gs_play.specs.inside.Pieces.{HaveRows};
 
 use gs_piece::Piece;
 use std::alloc::AllocError;

@@ -4,14 +4,14 @@ ghost use Rattle.gs_plan.specs.declared.plan.Plan.{Plan};
 ghost use Rattle.gs_run.specs.Nets.{net_of};
 ghost use Rattle.gs_run.specs.Net.{Net, neighbours};
 ghost use Rattle.gs_calendar.specs.Course.{Course, course_of};
-ghost use Rattle.gs_calendar.specs.inside.Feeds.{IsReadFor};
-ghost use Rattle.gs_calendar.specs.inside.Transits.{Has};
+ghost use Rattle.gs_calendar.specs.Scripts.{IsReadFor};
+ghost use Rattle.gs_calendar.specs.Transits.{Has};
 ghost use Rattle.gs_seat.specs.Held.{AreSentIn, IsWindow};
 ghost use Rattle.gs_piece.specs.Nodes.{AllHanded, handed_to};
 ghost use Rattle.gs_piece.specs.Pieces.{IsPiece, IsPieceIn};
 ghost use Rattle.gs_piece.specs.Senders.{IsFirstSender, NoneSends};
 ghost use Rattle.gs_piece.specs.declared.piece.Piece.{Piece};
-ghost use Rattle.gs_play.specs.Pieces.{ArePieces, ArePiecesIn, CanEnd, handed_below};
+ghost use Rattle.gs_play.specs.inside.Pieces.{ArePieces, ArePiecesIn, CanEnd, handed_below};
 
 use gs_piece::Piece;
 use gs_plan::Plan;

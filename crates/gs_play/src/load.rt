@@ -17,7 +17,7 @@ impl Load {
         Load { events: u64::MAX }
     }
 
-    /// After a window of `n` quanta with so many events.
+    /// After a window of `n` quanta with `events` ticks and deliveries.
     pub(crate) fn of_window(events: u64, n: u32) -> Load
         requires { 1 ≤ n }
     {
@@ -26,7 +26,7 @@ impl Load {
         }
     }
 
-    /// How many of so many pieces go into each thread in a window of `n` quanta: one each where that pays,
+    /// How many of the pieces go into each thread in a window of `n` quanta: one each where that pays,
     /// and all of them where no second thread does.
     pub(crate) fn share(&self, pieces: usize, n: u32) -> usize
         requires { 1 ≤ pieces }

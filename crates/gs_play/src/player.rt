@@ -7,8 +7,7 @@ ghost use Rattle.gs_run.specs.Nets.{net_of};
 ghost use Rattle.gs_run.specs.RunRows.{fast_of, rows_of};
 ghost use Rattle.gs_calendar.specs.Course.{course_of};
 ghost use Rattle.gs_calendar.specs.Events.{events_upto};
-ghost use Rattle.gs_calendar.specs.inside.Feeds.{IsReadFor};
-ghost use Rattle.gs_calendar.specs.Scripts.{start_of};
+ghost use Rattle.gs_calendar.specs.Scripts.{IsReadFor, start_of};
 ghost use Rattle.gs_calendar.specs.Stale.{breach_upto};
 ghost use Rattle.gs_calendar.specs.Stops.{StopsAt};
 
@@ -46,9 +45,9 @@ pub(crate) struct Player {
 }
 
 impl Player {
-    ghost use Rattle.gs_play.specs.Player.{IsPlayerAt, IsPlayerFor, HasPlayed};
+    ghost use Rattle.gs_play.specs.inside.Player.{IsPlayerAt, IsPlayerFor, HasPlayed};
 
-    /// The start of a play by so many workers, each of which has a piece.
+    /// The start of a play by `workers` workers, each of which has a piece.
     pub(crate) fn start(
         alloc: Global,
         plan: &Plan,

@@ -1,5 +1,5 @@
 ghost use Rattle.std.specs.Prelude.{◌≡◌, ◌+◌, ◌<◌, ◌≤◌, length};
-ghost use Rattle.gs_play.specs.Pieces.{AreReady, AreRun};
+ghost use Rattle.gs_play.specs.inside.Pieces.{AreReady, AreRun};
 
 use gs_gate::Gate;
 use gs_piece::Piece;

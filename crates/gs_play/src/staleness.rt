@@ -6,7 +6,7 @@ ghost use Rattle.gs_calendar.specs.Stops.{StopsAt};
 ghost use Rattle.gs_calendar.specs.declared.stop.PlayStop.TheVariants.{Stale};
 ghost use Rattle.gs_run.specs.Net.{neighbour, neighbours};
 ghost use Rattle.gs_seat.specs.inside.Freshness.{AreFresh};
-ghost use Rattle.gs_play.specs.Pieces.{ArePieces};
+ghost use Rattle.gs_play.specs.inside.Pieces.{ArePieces};
 
 use gs_calendar::PlayStop;
 use gs_piece::Piece;

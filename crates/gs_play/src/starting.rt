@@ -2,8 +2,8 @@ ghost use Rattle.std.specs.Prelude.{◌≡◌, ◌+◌, ◌*◌, ◌<◌, ◌≤
 ghost use Rattle.gs_plan.specs.Plans.{text_of};
 ghost use Rattle.gs_run.specs.Nets.{net_of};
 ghost use Rattle.gs_calendar.specs.Course.{course_of};
-ghost use Rattle.gs_calendar.specs.inside.Feeds.{IsReadFor};
-ghost use Rattle.gs_play.specs.Pieces.{ArePiecesIn};
+ghost use Rattle.gs_calendar.specs.Scripts.{IsReadFor};
+ghost use Rattle.gs_play.specs.inside.Pieces.{ArePiecesIn};
 
 use gs_piece::Piece;
 use gs_plan::Plan;

@@ -5,10 +5,10 @@ ghost use Rattle.gs_run.specs.Nets.{net_of};
 ghost use Rattle.gs_run.specs.RunRows.{fast_of, rows_of};
 ghost use Rattle.gs_calendar.specs.Course.{Course, course_of};
 ghost use Rattle.gs_script.specs.Script.{Said};
-ghost use Rattle.gs_play.specs.Apart.{most_apart};
+ghost use Rattle.gs_play.specs.inside.Apart.{most_apart};
 ghost use Rattle.gs_calendar.specs.Events.{events_upto};
 ghost use Rattle.gs_calendar.specs.Scripts.{start_of};
-ghost use Rattle.gs_play.specs.Pieces.{HaveRows};
+ghost use Rattle.gs_play.specs.inside.Pieces.{HaveRows};
 
 use crate::gathering::gather;
 use gs_level::Report;
@@ -29,7 +29,7 @@ pub(crate) struct Totals {
 }
 
 impl Totals {
-    ghost use Rattle.gs_play.specs.Totals.{AreTotals, IsCalm};
+    ghost use Rattle.gs_play.specs.inside.Totals.{AreTotals, IsCalm};
 
     /// The start, where all clocks are 0.
     pub(crate) fn start(alloc: Global, plan: &Plan) -> Result<Totals, AllocError>
@@ -96,7 +96,7 @@ impl Totals {
     }
 }
 
-/// How far two clocks may move apart in a quantum that so many nodes take in the fast mode, in clock units.
+/// How far two clocks may move apart in a quantum that `fast` nodes take in the fast mode, in clock units.
 fn most_apart(rate: &Rate, fast: u64) -> u64
     ensures { result ≡ most_apart rate.now fast }
 {

@@ -2,7 +2,7 @@ ghost use Rattle.std.specs.Prelude.{◌≡◌, ◌+◌, ◌<◌, ◌≤◌, ℕ}
 ghost use Rattle.gs_run.specs.Nets.{net_of};
 ghost use Rattle.gs_plan.specs.Plans.{text_of};
 ghost use Rattle.gs_seat.specs.Held.{IsWindow};
-ghost use Rattle.gs_play.specs.Windows.{least_delay, longest_window};
+ghost use Rattle.gs_play.specs.inside.Windows.{least_delay, longest_window};
 
 use gs_plan::Plan;
 

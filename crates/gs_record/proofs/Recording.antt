@@ -44,7 +44,7 @@ refused_is_breach net w (Quantum incs) refused (inr (from, to, stale)) is =
 refused_is_breach net w (Tick v) refused calm is = absurd (let both : None ≡ Some refused = sym calm ∙ is in cc)
 refused_is_breach net w (Deliver from to seq) refused calm is = absurd (let both : None ≡ Some refused = sym calm ∙ is in cc)
 
--- nothing is a front of all
+-- nothing is a prefix of all
 pub none_is_front : (held : Option (List ℕ)) (text : List ℕ) → AppendsFront held held text
 none_is_front None text = (0, tt)
 none_is_front (Some xs) text = (0, ap Some (sym (append-nil xs)))
@@ -126,7 +126,7 @@ goes_on p s q r w z e left old now new before faults after h written later same 
       later = omega (arith, earlier, later);
     }
 
--- a front of what is left of the trace ends a front of it
+-- a prefix of what is left of the trace ends a prefix of it
 front_ends : (p : Plan) (s : Said) (q : Plan) (w : World) (e : Event) (left : List Event) (old now new : Option (List ℕ)) (before faults : ℕ)
     → IsRecording p s q w (e ∷ left) old now before faults → AppendsFront now new (event_bytes e) → AppendsFront old new (trace_of p s)
 front_ends p s q w e left old now new before faults h front =
@@ -146,7 +146,7 @@ cut_ends p s q w e left old now new before faults after stop.Failed h cut =
     (front_ends p s q w e left old now new before faults h cut.0, rose_before before faults after h.later cut.1)
 cut_ends p s q w e left old now new before faults after stop.OutOfMemory h cut = front_ends p s q w e left old now new before faults h cut
 
--- all that is held is a front of the trace
+-- all that is held is a prefix of the trace
 pub held_is_front : (p : Plan) (s : Said) (q : Plan) (w : World) (left : List Event) (old now : Option (List ℕ)) (before faults : ℕ)
     → IsRecording p s q w left old now before faults → AppendsFront old now (trace_of p s)
 held_is_front p s q w left old now before faults h =

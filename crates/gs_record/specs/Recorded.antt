@@ -46,7 +46,7 @@ abbrev pub trace_of : Plan → Said → List ℕ
 trace_of plan said = head_of plan ++ flat_map event_bytes (recorded plan said)
 
 -- How the writing of a trace ends before the script's last event, where `old` and `new` are the bytes of the sink, and
--- `before` and `after` its counts of faults: with a breach the trace is whole, else a front of it was written.
+-- `before` and `after` its counts of faults: with a breach the trace is whole, else a prefix of it was written.
 abbrev pub EndsAt : Plan → Said → Option (List ℕ) → Option (List ℕ) → ℕ → ℕ → RecordStop → Type 0
 EndsAt plan said old new before after stop.Breach =
     ((breach : Breach) × (breach_of_script plan said ≡ Some breach)) × Appends old new (trace_of plan said)

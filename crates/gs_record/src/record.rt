@@ -143,7 +143,7 @@ fn take<K: Sink>(
     Ok(())
 }
 
-/// Takes an event of a script, which is refused as a breach or for want of memory alone.
+/// Takes an event of a script, which is refused as a breach, or where memory runs out, and for nothing else.
 fn admit(world: &mut World<'_>, event: &Event) -> Result<(), RecordStop>
     requires { IsCalm (net_of world.old.plan) world.old.world event.now }
     ensures plan { world.new.plan ≡ world.old.plan }

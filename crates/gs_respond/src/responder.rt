@@ -41,12 +41,12 @@ pub(crate) struct Responder<'a, R: Wait, C: Clock, V: Clock, D: Door> {
     ghost owing: { IsTrue (is_some owed) → 0 < D.Inlet.faults door + V.faults view_clock },
 }
 
-// Whether the board is open.
+/// Whether the board is open.
 fn is_open<R: Wait, C: Clock>(rt: &R, board: &Shared<C>) -> bool {
     !board.lock(rt).closed()
 }
 
-// Whether to stop after so many datagrams since the board was looked at.
+/// Whether to stop after `since` datagrams, counted from the last look at the board.
 fn stop_after<R: Wait, C: Clock>(rt: &R, board: &Shared<C>, stop: Rest, since: u32) -> Rest
     ensures { IsLater stop since result }
 {

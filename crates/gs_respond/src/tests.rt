@@ -9,7 +9,7 @@ const REQUEST: [u8; 16] = *b"GCSQ\0\0\0\0\0\0\0\0\0\0\0\x05";
 /// The answer of node 0 to it, at the clock 2000500.
 const ANSWER: [u8; 24] = *b"GCSA\0\0\0\0\0\0\0\0\0\0\0\x05\0\0\0\0\0\x1e\x86\x74";
 
-// How many are refused of bytes that are too short, or too long, or wrong in one of the first 8.
+/// How many are refused of bytes that are too short, or too long, or wrong in one of the first 8.
 fn refused(reader: &mut Reader) -> usize {
     let mut count = 0usize;
     let short = answer(reader, 0, 3_000_000, &REQUEST[..15]);

@@ -53,7 +53,7 @@ pub(crate) fn told(node: u32, id: u64, clock: u64) -> [u8; ANSWER_LENGTH]
     spelled(node, id, clock)
 }
 
-// The bytes of an answer.
+/// The bytes of an answer.
 #[tactic(auto, unfolding(crate::specs::TimeRequests::answer_bytes))]
 fn spelled(node: u32, id: u64, clock: u64) -> [u8; ANSWER_LENGTH]
     ensures { result ≡ answer_bytes node id clock }

@@ -19,7 +19,7 @@ use Rattle.gs_calendar.proofs.Breaches.{unbreached_is_allowed}
 use Rattle.gs_calendar.proofs.Fitting.{fits}
 use Rattle.gs_rows.specs.inside.Onward.{GoesOn, left_of}
 use Rattle.gs_rows.specs.Row.{Row, start_from}
-use Rattle.gs_rows.specs.Seen.{IsInside, IsOn, stage_of}
+use Rattle.gs_rows.specs.inside.Seen.{IsInside, IsOn, stage_of}
 use Rattle.gs_rows.specs.Stage.{IsOver, Stage, row_now}
 use Rattle.gs_rows.specs.declared.rows.Rows.TheInside.{Inside}
 use Rattle.gs_rows.proofs.Staging.{calm_from, counted, passes, row_is, same_breach}

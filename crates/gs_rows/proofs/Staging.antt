@@ -35,7 +35,7 @@ use Rattle.gs_calendar.proofs.OneSeat.{all_deliveries}
 use Rattle.gs_calendar.proofs.Staleness.{breach_is, script_breach_is}
 use Rattle.gs_rows.specs.inside.Onward.{GoesOn, left_of}
 use Rattle.gs_rows.specs.Row.{Row, row_at, rows_after, rows_from, start_from, zeros_of}
-use Rattle.gs_rows.specs.Seen.{IsOn}
+use Rattle.gs_rows.specs.inside.Seen.{IsOn}
 
 -- ---- events and their breach are the same from whatever clocks
 

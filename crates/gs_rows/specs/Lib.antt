@@ -3,5 +3,4 @@ pub mod Stage
 pub mod Steady
 pub mod Laws
 pub mod Taken
-pub mod Seen
 pub mod inside

@@ -1,2 +1,3 @@
 -- What private functions and proofs speak of: no public contract rests on it.
 pub mod Onward
+pub mod Seen

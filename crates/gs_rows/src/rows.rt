@@ -37,7 +37,7 @@ pub struct Rows<'p> {
 
 impl<'p> Model for Rows<'p> {
     ghost use Rattle.gs_rows.specs.Stage.{Stage};
-    ghost use Rattle.gs_rows.specs.Seen.{IsInside, stage_of};
+    ghost use Rattle.gs_rows.specs.inside.Seen.{IsInside, stage_of};
 
     ghost Value = { Stage };
 

@@ -12,8 +12,8 @@ use gs_core::Event;
 use gs_world::{Refused, World};
 
 /// Takes one event that is calm, as all events of a script are: see [`gs_calendar::scripts_are_calm`]. Of a
-/// quantum it answers how many nodes took it in fast mode. What refuses an event is a quantum's breach, or want of
-/// memory; it changes nothing.
+/// quantum it answers how many nodes took it in fast mode. What refuses an event is a quantum's breach, or memory that
+/// ran out; it changes nothing.
 pub fn take_event(world: &mut World<'_>, event: &Event) -> Result<Option<u32>, PlayStop>
     requires calm { IsCalm (net_of world.old.plan) world.old.world event.now }
     ensures plan { world.new.plan ≡ world.old.plan }

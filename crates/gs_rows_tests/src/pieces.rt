@@ -4,8 +4,8 @@ ghost use Rattle.gs_plan.specs.declared.plan.Plan.{Plan};
 ghost use Rattle.gs_run.specs.Net.{Net, neighbours};
 ghost use Rattle.gs_run.specs.Nets.{net_of};
 ghost use Rattle.gs_calendar.specs.Course.{Course, course_of};
-ghost use Rattle.gs_calendar.specs.inside.Feeds.{IsReadFor};
-ghost use Rattle.gs_calendar.specs.inside.Transits.{Has};
+ghost use Rattle.gs_calendar.specs.Scripts.{IsReadFor};
+ghost use Rattle.gs_calendar.specs.Transits.{Has};
 ghost use Rattle.gs_piece.specs.Pieces.{HasRows, IsPiece, IsPieceIn};
 
 use gs_piece::Piece;

@@ -1,4 +1,4 @@
--- Why events are refused: no reason is want of memory.
+-- Why events are refused: no reason is `OutOfMemory`.
 use Rattle.std.proofs.Common.{◌≡◌, ◌≢◌, ℕ, ◌+◌, ap, ◌∙◌, List, [], ◌∷◌, Bool, true, false, Option, Some, None}
 use Rattle.gs_core.specs.declared.event.Event.{Event}
 use Rattle.gs_core.specs.declared.event.Event.TheVariants.{Quantum, Tick, Deliver}

@@ -3,7 +3,7 @@ pub mod Nets
 pub mod Accepted
 pub mod World
 pub mod Why
-pub mod Words
+pub mod FaultWords
 pub mod Run
 pub mod Bounds
 pub mod Budget

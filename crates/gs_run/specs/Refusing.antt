@@ -12,7 +12,7 @@ abbrev pub AllowedWhereNoneIsRefused : Type 0
 AllowedWhereNoneIsRefused = (net : Net) (i : ℕ) (w : World) (es : List Event)
     → Allowed net w es ↔ (first_refused net i w es ≡ None)
 
--- the first refusal is never for want of memory
+-- the first refusal is never `OutOfMemory`
 abbrev pub NoneWantsMemory : Type 0
 NoneWantsMemory = (net : Net) (i : ℕ) (w : World) (es : List Event) (first : ℕ × Refused)
     → first_refused net i w es ≡ Some first → first.1 ≢ OutOfMemory

@@ -62,7 +62,7 @@ abbrev pub why_deliver : Net → World → ℕ → ℕ → ℕ → Option ℕ �
 why_deliver net w from to seq None = Some Shape
 why_deliver net w from to seq (Some i) = why_sent net w from to i (sent_by w from seq)
 
--- The first thing that does not allow an event, want of memory aside.
+-- The first thing that does not allow an event, running out of memory aside.
 abbrev pub why : Net → World → Event → Option Refused
 why net w (Quantum incs) = why_quantum net w incs
 why net w (Tick v) = then_some (nat_le net.nodes v) Shape

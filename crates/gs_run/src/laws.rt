@@ -40,7 +40,7 @@ pub fn nodes_are_replayed()
 {}
 
 /// A list of events is allowed exactly where none of them is refused first, and what refuses an event is never
-/// want of memory: that is no rule, but an answer of the code alone.
+/// `OutOfMemory`: that is no rule, but an answer of the code alone.
 pub fn refusals_are_named()
     ensures exact { AllowedWhereNoneIsRefused }
     ensures named { NoneWantsMemory }

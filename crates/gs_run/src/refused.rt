@@ -30,9 +30,9 @@ pub enum Refused {
 
 impl fmt::Display for Refused {
     ghost use Rattle.std.specs.Prelude.{Some};
-    ghost use Rattle.gs_run.specs.Words.{words_of};
+    ghost use Rattle.gs_run.specs.FaultWords.{why_of};
 
-    ghost output = { λ refused. Some (words_of refused) };
+    ghost output = { λ refused. Some (why_of refused) };
 
     fn fmt<W: fmt::Write>(&self, f: &mut fmt::Formatter<W>) -> fmt::Result {
         match self {

@@ -1,4 +1,4 @@
-pub mod Faults
+pub mod FaultWords
 pub mod Lines
 pub mod Lasts
 pub mod Script

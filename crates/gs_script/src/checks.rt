@@ -17,7 +17,7 @@ const MAX_SCRIPT_QUANTA: u64 = 1_048_576;
 /// The most work of a script: its quanta times the nodes and edges of the plan.
 const MAX_WORK: u128 = 67_108_864;
 
-/// Whether so many quanta are too many, for the plan or at all.
+/// Whether these are too many quanta, for the plan or at all.
 fn is_large(plan: &Plan, quanta: u64) -> bool
     ensures { result ≡ is_large (text_of plan.now) quanta }
 {

@@ -39,7 +39,7 @@ pub enum ScriptFault {
 
 impl fmt::Display for ScriptFault {
     ghost use Rattle.std.specs.Prelude.{Some};
-    ghost use Rattle.gs_script.specs.Faults.{why_of};
+    ghost use Rattle.gs_script.specs.FaultWords.{why_of};
 
     ghost output = { λ f. Some (why_of f) };
 

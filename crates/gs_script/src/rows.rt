@@ -8,7 +8,7 @@ use crate::record::MAX_RECORDS;
 use csv::{ByteRecord, Error, ErrorKind, ReaderBuilder};
 use std::alloc::{AllocError, Global};
 
-/// Want of memory, which is all that a read of bytes is refused for where records may differ in length.
+/// Running out of memory, which is all that a read of bytes is refused for where records may differ in length.
 /// `Io` stands beside it since std's `Read` does not say of any source, a slice too, that it never fails,
 /// and so csv's clause on why a read failed excludes every kind but these two.
 fn refusal(error: Error) -> AllocError

@@ -11,7 +11,7 @@ use Rattle.gs_calendar.specs.Course.{Course}
 use Rattle.gs_calendar.specs.Due.{Key, due_by, due_after, key_cmp}
 use Rattle.gs_calendar.specs.Events.{deliveries, deliveries_to}
 use Rattle.gs_calendar.specs.inside.Feeds.{deliver_all, key_of}
-use Rattle.gs_calendar.specs.inside.Transits.{Has, AreInOrder, Comes, InTransit, IsCovering}
+use Rattle.gs_calendar.specs.Transits.{Has, AreInOrder, Comes, InTransit, IsCovering}
 use Rattle.gs_calendar.proofs.Comings.{comes_when}
 use Rattle.gs_calendar.proofs.Placed.{has_insert, insert_has, insert_in_order}
 use Rattle.gs_calendar.proofs.Sorted.{has_after, after_has, after_in_order}

@@ -7,10 +7,10 @@ use Rattle.gs_run.specs.Net.{Net, neighbour, neighbours, place_of}
 use Rattle.gs_script.specs.Lasts.{Lasts}
 use Rattle.gs_script.specs.declared.run.WayRun.{WayRun}
 use Rattle.gs_calendar.specs.Course.{Course}
-use Rattle.gs_calendar.specs.inside.Transits.{Has}
+use Rattle.gs_calendar.specs.Transits.{Has}
 use Rattle.gs_calendar.proofs.Arrivals.{place_is_inside}
 use Rattle.gs_seat.specs.Held.{handed}
-use Rattle.gs_seat.specs.inside.Ways.{HoldsWays, Knows, unasked}
+use Rattle.gs_seat.specs.Ways.{HoldsWays, Knows, unasked}
 use Rattle.gs_seat.proofs.Held.{handed_other, handed_own}
 
 knows_later : (c : Course) (x v a b : ℕ) (w : WayRun) → a ≤ b → Knows c x v a w → Knows c x v b w

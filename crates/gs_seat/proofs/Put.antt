@@ -8,7 +8,7 @@ use Rattle.std.specs.declared.cmp.Ordering.TheVariants.{Less, Equal, Greater}
 use Rattle.std.proofs.lemmas.Bool.{cases_eq, true≢false}
 use Rattle.std.proofs.lemmas.List.{get_or_default}
 use Rattle.gs_calendar.specs.Due.{Key, key_cmp}
-use Rattle.gs_calendar.specs.inside.Transits.{Has, Before, AreInOrder}
+use Rattle.gs_calendar.specs.Transits.{Has, Before, AreInOrder}
 use Rattle.gs_calendar.proofs.Placed.{stands, ahead, level, behind}
 use Rattle.gs_calendar.proofs.Sorted.{before_on, behind_has, never_both, never_itself}
 use Rattle.gs_seat.specs.Letters.{Letter, IsGap, key_of, keys, put_letter}

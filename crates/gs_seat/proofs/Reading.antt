@@ -18,8 +18,8 @@ use Rattle.gs_run.specs.Nets.{net_of}
 use Rattle.gs_run.specs.World.{Sent}
 use Rattle.gs_run.proofs.PlanNumbers.{plan_has_numbers}
 use Rattle.gs_calendar.specs.Course.{Course, course_of}
-use Rattle.gs_calendar.specs.inside.Feeds.{IsReadFor}
-use Rattle.gs_calendar.specs.inside.Transits.{Has}
+use Rattle.gs_calendar.specs.Scripts.{IsReadFor}
+use Rattle.gs_calendar.specs.Transits.{Has}
 use Rattle.gs_calendar.proofs.Arrivals.{neighbour_has_place, place_is_inside}
 use Rattle.gs_calendar.proofs.Fitting.{IsCourse, adjacent_said, fits, near}
 use Rattle.gs_calendar.proofs.OnTheWay.{neighbour_is, said_node}

@@ -10,7 +10,7 @@ use Rattle.gs_script.specs.Lasts.{Lasts}
 use Rattle.gs_calendar.specs.Calendar.{sent_at}
 use Rattle.gs_calendar.specs.Course.{Course}
 use Rattle.gs_calendar.specs.Events.{nodes_of}
-use Rattle.gs_calendar.specs.inside.Transits.{Has, AreInOrder}
+use Rattle.gs_calendar.specs.Transits.{Has, AreInOrder}
 use Rattle.gs_run.proofs.Start.{start_member}
 use Rattle.gs_seat.specs.Alone.{alone, AreCarried}
 use Rattle.gs_seat.specs.Held.{IsHeld, AreSentIn}
@@ -18,7 +18,7 @@ use Rattle.gs_seat.specs.Letters.{Letter, keys}
 use Rattle.gs_seat.specs.Seats.{IsSeatIn}
 use Rattle.gs_seat.specs.Sleepers.{IsAsleep, part_of, reading_at}
 use Rattle.gs_seat.specs.Worlds.{world_of, part_at}
-use Rattle.gs_seat.specs.inside.Ways.{unasked}
+use Rattle.gs_seat.specs.Ways.{unasked}
 use Rattle.gs_seat.proofs.Known.{ways_unasked}
 use Rattle.gs_seat.specs.declared.seat.Seat.{Seat}
 use Rattle.gs_seat.specs.declared.sleeper.Sleeper.{Sleeper}

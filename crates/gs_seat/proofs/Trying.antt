@@ -6,7 +6,7 @@ use Rattle.gs_script.specs.Script.{Said}
 use Rattle.gs_run.specs.Net.{Net}
 use Rattle.gs_run.specs.Nets.{net_of}
 use Rattle.gs_calendar.specs.Course.{course_of}
-use Rattle.gs_calendar.specs.inside.Feeds.{IsReadFor}
+use Rattle.gs_calendar.specs.Scripts.{IsReadFor}
 use Rattle.gs_seat.specs.Held.{IsWindow}
 use Rattle.gs_seat.specs.Worlds.{Plays}
 use Rattle.gs_seat.proofs.Aging.{fresh_first, fresh_is_calm}

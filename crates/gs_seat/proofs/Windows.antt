@@ -13,7 +13,7 @@ use Rattle.gs_calendar.specs.Calendar.{sent_at, given_seq, turn}
 use Rattle.gs_calendar.specs.Course.{Course}
 use Rattle.gs_calendar.specs.Due.{Key, key_cmp}
 use Rattle.gs_calendar.specs.inside.Feeds.{key_of}
-use Rattle.gs_calendar.specs.inside.Transits.{Has}
+use Rattle.gs_calendar.specs.Transits.{Has}
 use Rattle.gs_calendar.proofs.Agree.{HasMail}
 use Rattle.gs_calendar.proofs.Fitting.{IsCourse}
 use Rattle.gs_calendar.proofs.OnTheWay.{is_neighbour, neighbour_is}
@@ -24,7 +24,7 @@ use Rattle.gs_seat.specs.Letters.{Letter, keys, letters_after, put_letter, first
 use Rattle.gs_seat.specs.Letters as letters
 use Rattle.gs_seat.specs.Seats.{IsSeatAt, IsSeatIn, wake_of}
 use Rattle.gs_seat.specs.Sleepers.{IsAsleep}
-use Rattle.gs_seat.specs.inside.Ways.{HoldsWays}
+use Rattle.gs_seat.specs.Ways.{HoldsWays}
 use Rattle.gs_seat.specs.Worlds.{world_of, part_at, part_begun, WasSent}
 use Rattle.gs_seat.specs.declared.seat.Seat.{Seat}
 use Rattle.gs_seat.proofs.Carried.{all_carried_next, sent_stays}

@@ -5,7 +5,7 @@ use Rattle.gs_run.specs.World.{Sent}
 use Rattle.gs_calendar.specs.Calendar.{sent_at}
 use Rattle.gs_calendar.specs.Course.{Course}
 use Rattle.gs_calendar.specs.Due.{Key}
-use Rattle.gs_calendar.specs.inside.Transits.{Has, AreInOrder, InTransit}
+use Rattle.gs_calendar.specs.Transits.{Has, AreInOrder, InTransit}
 use Rattle.gs_seat.specs.Worlds.{WasSent}
 
 -- In transit to v, in order: of what each node x sent by quantum `by x`, that which is due after quantum t.

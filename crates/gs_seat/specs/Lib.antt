@@ -4,4 +4,5 @@ pub mod Worlds
 pub mod Held
 pub mod Sleepers
 pub mod Seats
+pub mod Ways
 pub mod inside

@@ -9,7 +9,7 @@ use Rattle.gs_seat.specs.Held.{IsHeld, AreSentIn}
 use Rattle.gs_seat.specs.Letters.{keys, first_due}
 use Rattle.gs_seat.specs.Sleepers.{IsAsleep}
 use Rattle.gs_seat.specs.Worlds.{world_of}
-use Rattle.gs_seat.specs.inside.Ways.{HoldsWays}
+use Rattle.gs_seat.specs.Ways.{HoldsWays}
 use Rattle.gs_seat.specs.declared.seat.Seat.{Seat}
 
 -- This seat stands for node v at the end of quantum t, in a window that began at the end of quantum m. In transit to it is

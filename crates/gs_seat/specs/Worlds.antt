@@ -10,8 +10,7 @@ use Rattle.gs_run.specs.World.{World, Member, Sent, member, advanced, sent_by}
 use Rattle.gs_calendar.specs.Calendar.{sent_at}
 use Rattle.gs_calendar.specs.Course.{Course, course_of}
 use Rattle.gs_calendar.specs.Events.{events_upto}
-use Rattle.gs_calendar.specs.inside.Feeds.{IsReadFor}
-use Rattle.gs_calendar.specs.Scripts.{start_of}
+use Rattle.gs_calendar.specs.Scripts.{IsReadFor, start_of}
 use Rattle.gs_calendar.specs.Stale.{breach_upto}
 use Rattle.gs_seat.specs.Alone.{alone, hears}
 use Rattle.gs_seat.specs.Letters.{Letter}

@@ -1,4 +1,3 @@
--- What the code's own types stand for: the contracts of the crates above and proofs speak of it, and no headline does.
+-- What private functions and proofs speak of: no public contract rests on it.
 pub mod Turns
-pub mod Ways
 pub mod Freshness

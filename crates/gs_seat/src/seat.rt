@@ -7,10 +7,10 @@ ghost use Rattle.gs_run.specs.Nets.{net_of};
 ghost use Rattle.gs_run.specs.World.{clock_in};
 ghost use Rattle.gs_script.specs.Script.{Said};
 ghost use Rattle.gs_calendar.specs.Course.{Course, course_of};
-ghost use Rattle.gs_calendar.specs.inside.Feeds.{IsReadFor};
+ghost use Rattle.gs_calendar.specs.Scripts.{IsReadFor};
 ghost use Rattle.gs_calendar.specs.Calendar.{heard_at};
 ghost use Rattle.gs_calendar.specs.Stale.{first_stale};
-ghost use Rattle.gs_calendar.specs.inside.Transits.{Has};
+ghost use Rattle.gs_calendar.specs.Transits.{Has};
 ghost use Rattle.gs_seat.specs.Worlds.{Plays, world_of};
 ghost use Rattle.gs_seat.specs.Held.{IsWindow, IsNext, AreSentIn, handed};
 
@@ -72,7 +72,7 @@ impl Seat {
     }
 
     /// Quantum `t + 1` of node `v`, in which it may wake up: it hears what is due, ticks if its gap is
-    /// over, and looks ahead. A beacon that it sends is kept until the window ends. It wants no memory.
+    /// over, and looks ahead. A beacon that it sends is kept until the window ends. It takes no memory.
     pub fn turn(&mut self, plan: &Plan, script: &Script, v: u32, t: u32)
         requires plays { Plays plan.now script.now v (suc t) }
         requires seat { (m : ℕ) × IsWindow (net_of plan.now) m (suc t)

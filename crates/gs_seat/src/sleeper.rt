@@ -11,7 +11,7 @@ ghost use Rattle.gs_script.specs.Lasts.{Lasts};
 ghost use Rattle.gs_script.specs.Script.{gap_of, inc_of};
 ghost use Rattle.gs_calendar.specs.Calendar.{sent_at};
 ghost use Rattle.gs_calendar.specs.Course.{course_of};
-ghost use Rattle.gs_calendar.specs.inside.Feeds.{IsReadFor};
+ghost use Rattle.gs_calendar.specs.Scripts.{IsReadFor};
 ghost use Rattle.gs_seat.specs.Alone.{CanHear, CanTick, IsHearable, hears, ticks_alone};
 ghost use Rattle.gs_seat.specs.Letters.{letters_after, letters_by};
 ghost use Rattle.gs_seat.specs.inside.Turns.{IsTurn};

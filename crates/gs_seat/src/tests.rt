@@ -3,8 +3,8 @@ ghost use Rattle.gs_plan.specs.Plans.{text_of};
 ghost use Rattle.gs_run.specs.Net.{neighbours};
 ghost use Rattle.gs_run.specs.Nets.{net_of};
 ghost use Rattle.gs_calendar.specs.Course.{course_of};
-ghost use Rattle.gs_calendar.specs.inside.Feeds.{IsReadFor};
-ghost use Rattle.gs_calendar.specs.inside.Transits.{Has};
+ghost use Rattle.gs_calendar.specs.Scripts.{IsReadFor};
+ghost use Rattle.gs_calendar.specs.Transits.{Has};
 ghost use Rattle.gs_seat.specs.Seats.{IsSeatIn};
 
 use crate::Seat;

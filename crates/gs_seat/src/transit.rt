@@ -1,5 +1,5 @@
 ghost use Rattle.std.specs.Prelude.{◌≡◌, [], true, false, length, IfSome, IfNone, OnOk, OnErr};
-ghost use Rattle.gs_calendar.specs.inside.Transits.{AreInOrder, Has};
+ghost use Rattle.gs_calendar.specs.Transits.{AreInOrder, Has};
 ghost use Rattle.gs_seat.specs.Letters.{IsFirstDue, IsGap, IsNoneDue, TakesFirst, first_due, key_of, keys, put_letter};
 
 use crate::mail::Mail;

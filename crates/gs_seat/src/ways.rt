@@ -5,7 +5,7 @@ ghost use Rattle.gs_script.specs.Lasts.{Lasts};
 ghost use Rattle.gs_script.specs.Script.{delay_of, is_lost};
 ghost use Rattle.gs_script.specs.declared.run.WayRun.{WayRun};
 ghost use Rattle.gs_calendar.specs.Course.{course_of};
-ghost use Rattle.gs_seat.specs.inside.Ways.{Knows, unasked};
+ghost use Rattle.gs_seat.specs.Ways.{Knows, unasked};
 
 use gs_script::{Script, WayRun};
 use std::alloc::{AllocError, Global};

@@ -75,7 +75,7 @@ fn mark(plan: &Plan, levels: u32, clocks: &[u64], t: u32, last: &mut [Option<u32
     }
 }
 
-/// A place for each of so many levels.
+/// A place for each of `levels` levels.
 fn no_marks(alloc: Global, levels: u32) -> Result<Vec<Option<u32>>, AllocError>
     ensures { IfOk result (λ none. none.items ≡ replicate levels None) }
 {

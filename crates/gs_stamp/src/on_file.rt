@@ -126,7 +126,7 @@ fn write_to<F: Write + Seek>(file: &mut F, at: u32, piece: &[u8]) -> io::Result<
     file.write_all(piece)
 }
 
-// The open file; at the first call it is opened, and made if need be.
+/// The open file; at the first call it is opened, and made if need be.
 fn taken<R: Disk>(disk: &R, name: &str, file: &mut Option<R::File>) -> io::Result<R::File> {
     match file.take() {
         Some(file) => Ok(file),
@@ -134,8 +134,8 @@ fn taken<R: Disk>(disk: &R, name: &str, file: &mut Option<R::File>) -> io::Resul
     }
 }
 
-// Opens a file. Where it is missing, or empty as a crash at its making may leave it, it is given its
-// zero bytes. Its name is on the disk before it has them, so that a file with bytes never lacks one.
+/// Opens a file. Where it is missing, or empty as a crash at its making may leave it, it is given its
+/// zero bytes. Its name is on the disk before it has them, so that a file with bytes never lacks one.
 fn open_or_make<R: Disk>(disk: &R, name: &str) -> io::Result<R::File> {
     let file = OpenOptions::new()
         .read(true)
@@ -150,7 +150,7 @@ fn open_or_make<R: Disk>(disk: &R, name: &str) -> io::Result<R::File> {
     Ok(file)
 }
 
-// Sees to it that the name of a file is on the disk.
+/// Sees to it that the name of a file is on the disk.
 fn sync_folder<R: Disk>(disk: &R, name: &str) -> io::Result<()> {
     let folder = match Path::new(name).parent() {
         Some(folder) => folder.to_string_lossy(),

@@ -98,7 +98,7 @@ stops n low next readings halt status old new same undone either full wrote = re
   exact = λ rs is. none_first n low rs halt status undone either (λ ended. full ended rs is);
 }
 
--- a run whose last stamp has only a front of its line
+-- a run whose last stamp has only a prefix of its line
 pub cut_short : (n low s next : ℕ) (readings after_left : Option (List ℕ)) (status : Status) (old new : Option (List ℕ)) → low ≤ s → next ≡ s + 1 → s + 1048576 < 2 ^ 62
     → ((rs : List ℕ) → readings ≡ Some rs → (s ≡ max low (first_of rs)) × (after_left ≡ Some (rest_of rs))) → IsCut status → AppendsFront old new (line_of s) → Went (n + 1) low next readings status old new
 cut_short n low s next readings after_left status old new rise after room told cut front = record {

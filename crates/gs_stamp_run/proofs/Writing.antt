@@ -3,7 +3,7 @@ use Rattle.std.proofs.Common.{◌≡◌, ℕ, suc, ◌+◌, List, [], ◌∷◌,
 use Rattle.std.proofs.lemmas.List.{append-nil}
 use Rattle.gs_io.specs.Held.{Appends, AppendsFront}
 
--- nothing is a front of every text
+-- nothing is a prefix of every text
 pub nothing_written : (old : Option (List ℕ)) (text : List ℕ) → AppendsFront old old text
 nothing_written None text = (0, tt)
 nothing_written (Some held) text = (0, ap (λ (l : List ℕ). Some l) (sym (append-nil held)))

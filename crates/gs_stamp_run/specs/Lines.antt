@@ -36,7 +36,7 @@ status_line _ = []
 abbrev pub IsCut : Status → Type 0
 IsCut status = (status ≡ WriteFault) ⊎ (status ≡ OutOfMemory)
 
--- The sink has a line for each stamp and the line of the status. Where the run was cut, it has a front of the stamps'
+-- The sink has a line for each stamp and the line of the status. Where the run was cut, it has a prefix of the stamps'
 -- lines and the line of the status that was to be told.
 abbrev pub Wrote : List ℕ → Status → Option (List ℕ) → Option (List ℕ) → Type 0
 Wrote stamps status old new =

@@ -15,7 +15,7 @@ use gs_io::Sink;
 use gs_stamp::{StampFault, Stamper, Store};
 use std::alloc::Global;
 
-// The stamp at the next reading.
+/// The stamp at the next reading.
 #[tactic(auto, using(crate::proofs::Exact::reads_told))]
 fn next_stamp<T: Store, C: Clock>(stamper: &mut Stamper<T>, clock: &mut C) -> Result<u64, Status>
     ensures ok { IfOk result (λ s. (next_of stamper.old ≤ s) × (next_of stamper.new ≡ s + 1)) }
@@ -48,7 +48,7 @@ fn next_stamp<T: Store, C: Clock>(stamper: &mut Stamper<T>, clock: &mut C) -> Re
     }
 }
 
-// Issues a stamp and writes its line. An `Err` is how the run ended, with that status's line written.
+/// Issues a stamp and writes its line. An `Err` is how the run ended, with that status's line written.
 fn issue<T: Store, C: Clock, K: Sink>(
     alloc: Global,
     stamper: &mut Stamper<T>,
@@ -87,7 +87,7 @@ fn issue<T: Store, C: Clock, K: Sink>(
     }
 }
 
-/// Issues so many stamps, each with its line, and answers how the run ended, with that status's line
+/// Issues `count` stamps, each with its line, and answers how the run ended, with that status's line
 /// written.
 pub(crate) fn issue_all<T: Store, C: Clock, K: Sink>(
     alloc: Global,

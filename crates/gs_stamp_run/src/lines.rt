@@ -8,7 +8,7 @@ use gs_io::{Failed, Sink};
 use gs_text::Lines;
 use std::alloc::{AllocError, Global};
 
-// The line of a stamp.
+/// The line of a stamp.
 fn line_of(alloc: Global, stamp: u64) -> Result<Lines, AllocError>
     ensures { IfOk result (λ line. line ≡ line_of stamp) }
 {
@@ -37,7 +37,7 @@ pub(crate) fn write_stamp<K: Sink>(alloc: Global, out: &mut K, stamp: u64) -> Re
     }
 }
 
-// The line of a status, empty where it has none.
+/// The line of a status, empty where it has none.
 fn status_line(status: Status) -> &'static str
     ensures { result.now ≡ status_line status }
 {

@@ -1,5 +1,5 @@
 -- Why there is no slot plan of this reach and slot.
-use Rattle.std.specs.Prelude.{ℕ, List, [], ◌∷◌, ◌*◌, ◌^◌, ◌||◌, nat_le, nat_lt, Option, codes}
+use Rattle.std.specs.Prelude.{ℕ, List, [], ◌∷◌, ◌*◌, ◌^◌, ◌||◌, nat_le, nat_lt, Option}
 use Rattle.std.specs.Bool.{then_some}
 use Rattle.gs_units.specs.FirstFault.{first_some}
 use Rattle.gs_plan.specs.declared.plan.Plan.{Plan}
@@ -13,9 +13,3 @@ slot_fault p reach slot = first_some (
     then_some (nat_lt reach 1 || nat_lt 4 reach) fault.Reach
     ∷ then_some (nat_le slot (2 * guard_in p reach) || nat_le (2 ^ 48) slot) fault.Slot
     ∷ [])
-
--- the words for it
-abbrev pub fault_text : SlotFault → List ℕ
-fault_text fault.Reach = codes "reach"
-fault_text fault.Slot = codes "slot"
-fault_text fault.OutOfMemory = codes "out of memory"

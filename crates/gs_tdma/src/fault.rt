@@ -18,9 +18,9 @@ pub enum SlotFault {
 
 impl fmt::Display for SlotFault {
     ghost use Rattle.std.specs.Prelude.{Some};
-    ghost use Rattle.gs_tdma.specs.Faults.{fault_text};
+    ghost use Rattle.gs_tdma.specs.FaultWords.{why_of};
 
-    ghost output = { λ fault. Some (fault_text fault) };
+    ghost output = { λ fault. Some (why_of fault) };
 
     fn fmt<W: fmt::Write>(&self, f: &mut fmt::Formatter<W>) -> fmt::Result {
         match self {

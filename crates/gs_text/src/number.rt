@@ -16,7 +16,7 @@ pub fn read_u64(text: &[u8]) -> Option<u64>
     if is_plain(text) { value(text) } else { None }
 }
 
-// The number that digits write, where it is below 2^64.
+/// The number that digits write, where it is below 2^64.
 fn value(digits: &[u8]) -> Option<u64>
     requires { is_plain digits.now ≡ true }
     ensures { result ≡ value_of digits.now }

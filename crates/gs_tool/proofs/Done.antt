@@ -7,8 +7,7 @@ use Rattle.gs_plan.specs.Plans.{text_of}
 use Rattle.gs_plan.specs.declared.plan.Plan.{Plan}
 use Rattle.gs_script.specs.Script.{Said}
 use Rattle.gs_calendar.specs.Breach.{Breach}
-use Rattle.gs_calendar.specs.inside.Feeds.{IsReadFor}
-use Rattle.gs_calendar.specs.Scripts.{breach_of_script}
+use Rattle.gs_calendar.specs.Scripts.{IsReadFor, breach_of_script}
 use Rattle.gs_play.proofs.Keeping.{scripts_keep}
 use Rattle.gs_cli.specs.Answers.{Answer, Gives}
 use Rattle.gs_tool.specs.Commands.{Command}

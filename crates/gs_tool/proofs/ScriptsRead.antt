@@ -7,7 +7,7 @@ use Rattle.gs_script.specs.Reading.{script_of, steady_of}
 use Rattle.gs_script.specs.Script.{Said}
 use Rattle.gs_script.specs.declared.fault.ScriptFault.{ScriptFault}
 use Rattle.gs_script.proofs.ReadWithin.{IsReadOf, records_read, steady_read}
-use Rattle.gs_calendar.specs.inside.Feeds.{IsReadFor}
+use Rattle.gs_calendar.specs.Scripts.{IsReadFor}
 use Rattle.gs_cli.specs.Words.{number_within}
 use Rattle.gs_inputs.specs.Scripts.{said_from, script_in, steady_from}
 use Rattle.gs_inputs.specs.Sources.{Source, Count, Text}

@@ -3,7 +3,7 @@ use Rattle.std.proofs.Common.{◌≡◌, ℕ, inl, inr, List, Result, Ok, Err, I
 use Rattle.std.specs.Result.{IsErrAnd}
 use Rattle.gs_plan.specs.declared.plan.Plan.{Plan}
 use Rattle.gs_cli.specs.Answers.{Answer}
-use Rattle.gs_cli.specs.inside.Stops.{EndsWith, StopsAt, StopsWith}
+use Rattle.gs_cli.specs.Stops.{EndsWith, StopsAt, StopsWith}
 use Rattle.gs_cli.specs.declared.reply.Reply.{Reply}
 use Rattle.gs_cli.specs.declared.stop.Stop.{Stop}
 use Rattle.gs_cli.specs.declared.stop.Stop.TheVariants.{Refused, OutOfMemory}

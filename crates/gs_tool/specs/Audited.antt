@@ -5,13 +5,13 @@ use Rattle.gs_units.specs.declared.rate.Mode.{Mode}
 use Rattle.gs_units.specs.declared.rate.Mode.TheVariants.{Slow, Fast}
 use Rattle.gs_plan.specs.Plans.{graph_of, params_for, text_of}
 use Rattle.gs_plan.specs.declared.plan.Plan.{Plan}
-use Rattle.gs_core.specs.Faults.{why_of}
+use Rattle.gs_core.specs.FaultWords.{why_of as node_why}
 use Rattle.gs_core.specs.declared.event.Event.{Event}
 use Rattle.gs_core.specs.declared.event.NodeEvent.{NodeEvent}
 use Rattle.gs_level.specs.ReportText.{report_text}
-use Rattle.gs_run.specs.Words.{words_of}
+use Rattle.gs_run.specs.FaultWords.{why_of as event_why}
 use Rattle.gs_trace.specs.Nodes.{SpellsNode, node_fault}
-use Rattle.gs_trace.specs.Words.{words_of as trace_words}
+use Rattle.gs_trace.specs.FaultWords.{why_of as trace_why}
 use Rattle.gs_trace.specs.Worlds.{SpellsWorld, world_fault}
 use Rattle.gs_trace.specs.declared.fault.TraceFault.{TraceFault}
 use Rattle.gs_trace.specs.declared.start.NodeStart.{NodeStart}
@@ -28,7 +28,7 @@ use Rattle.gs_inputs.specs.Plans.{node_refused}
 
 -- bytes that are no trace
 abbrev pub trace_refused : TraceFault → Answer
-trace_refused fault = line status.InputRefused (codes "trace refused: " ++ trace_words fault)
+trace_refused fault = line status.InputRefused (codes "trace refused: " ++ trace_why fault)
 
 -- the first event that is refused, and why
 abbrev pub refused_at : ℕ → List ℕ → Answer
@@ -40,7 +40,7 @@ refused_at index why = line status.Breach (codes "refused at " ++ decimal index 
 abbrev pub audit_answer : Plan → Verdict → Answer
 audit_answer plan (world.Within report) =
     record { status = status.Done; text = report_text (text_of plan) (graph_of plan) report }
-audit_answer plan (world.Refused index why) = refused_at index (words_of why)
+audit_answer plan (world.Refused index why) = refused_at index (event_why why)
 
 -- The answer to `audit`: the verdict on the start and the events that the bytes spell, or why they spell none.
 abbrev pub IsAudited : Plan → List ℕ → Answer → Type 0
@@ -61,7 +61,7 @@ abbrev pub replay_answer : ℕ → ℕ → NodeVerdict → Answer
 replay_answer v count (node.Within l m mode) =
     line status.Done (codes "node " ++ decimal v ++ codes " events " ++ decimal count ++ codes " clock " ++ decimal l
     ++ codes " maximum " ++ decimal m ++ codes " mode " ++ mode_word mode)
-replay_answer v count (node.Refused index why) = refused_at index (why_of why)
+replay_answer v count (node.Refused index why) = refused_at index (node_why why)
 
 -- the verdict on the start and the events that the bytes spell for the node of these parameters, or why they spell none
 abbrev pub IsReplayOf : NodeParams → List ℕ → Answer → Type 0

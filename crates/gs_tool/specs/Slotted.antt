@@ -4,7 +4,7 @@ use Rattle.gs_topo.specs.Graph.{Graph}
 use Rattle.gs_plan.specs.Plans.{graph_of}
 use Rattle.gs_plan.specs.declared.plan.Plan.{Plan}
 use Rattle.gs_script.specs.Script.{Said}
-use Rattle.gs_tdma.specs.Faults.{fault_text}
+use Rattle.gs_tdma.specs.FaultWords.{why_of}
 use Rattle.gs_tdma.specs.Slots.{Slots, colour_of, count_of, sent_of}
 use Rattle.gs_tdma.specs.declared.fault.SlotFault.{SlotFault}
 use Rattle.gs_cli.specs.Answers.{Answer, line}
@@ -38,4 +38,4 @@ slotted s plan said = slots_text (graph_of plan) s (sent_of plan said s)
 
 -- a reach and a slot that have a fault
 abbrev pub slot_refused : SlotFault → Answer
-slot_refused fault = line status.InputRefused (codes "slot refused: " ++ fault_text fault)
+slot_refused fault = line status.InputRefused (codes "slot refused: " ++ why_of fault)

@@ -1,5 +1,5 @@
--- The answer to `trace`, and a run of it. A trace is written as it comes, so a run may also end for want of memory with a
--- front of it written.
+-- The answer to `trace`, and a run of it. A trace is written as it comes, so a run in which memory runs out may have
+-- written a prefix of it.
 use Rattle.std.specs.Prelude.{◌≡◌, ℕ, ◌⊎◌, List, Option, Some, None}
 use Rattle.gs_io.specs.Held.{AppendsFront}
 use Rattle.gs_plan.specs.declared.plan.Plan.{Plan}
@@ -25,7 +25,7 @@ traced plan said = record { status = traced_status (breach_of_script plan said);
 abbrev pub IsTraced : Plan → Said → Answer → Type 0
 IsTraced plan said answer = answer ≡ traced plan said
 
--- memory was short when a front of the answer was written
+-- memory ran out when a prefix of the answer was written
 abbrev pub IsStarvedAmid : Answer → Option (List ℕ) → Option (List ℕ) → Status → Type 0
 IsStarvedAmid answer old new ended = (ended ≡ status.OutOfMemory) × AppendsFront old new answer.text
 

@@ -6,7 +6,7 @@ ghost use Rattle.gs_planfile.specs.Texts.{IsText};
 ghost use Rattle.gs_plan.specs.Plans.{text_of};
 ghost use Rattle.gs_calendar.specs.StopTexts.{stop_text};
 ghost use Rattle.gs_cli.specs.Answers.{line};
-ghost use Rattle.gs_cli.specs.inside.Reply.{answer_in};
+ghost use Rattle.gs_cli.specs.Reply.{answer_in};
 ghost use Rattle.gs_tool.specs.Runs.{IsMigrated, IsPlanned, IsTold, played};
 
 use crate::plan_text::plan_text;

@@ -2,8 +2,8 @@
 
 ghost use Rattle.std.specs.Prelude.{◌≡◌, ◌++◌, IfOk, codes, decimal, length, string_bytes};
 ghost use Rattle.gs_units.specs.Params.{AreValid};
-ghost use Rattle.gs_cli.specs.inside.Reply.{answer_in};
-ghost use Rattle.gs_cli.specs.inside.Stops.{EndsWith};
+ghost use Rattle.gs_cli.specs.Reply.{answer_in};
+ghost use Rattle.gs_cli.specs.Stops.{EndsWith};
 ghost use Rattle.gs_tool.specs.Audited.{IsAudited, IsReplayOf, IsReplayed, audit_answer, mode_word};
 ghost use Rattle.gs_tool.specs.Audited.{refused_at, replay_answer, trace_refused};
 ghost use Rattle.gs_tool.specs.inside.AuditSeen.{HasLevels};
@@ -120,7 +120,7 @@ fn count(scan: NodeScan<'_>) -> u64
     count
 }
 
-/// The reply that tells a node's verdict, after so many events.
+/// The reply that tells a node's verdict, after `count` events.
 fn node_reply(
     alloc: Global,
     node: u32,
@@ -138,7 +138,7 @@ fn node_reply(
     }
 }
 
-/// The line of a node that takes all events: so many, and then its clock, its maximum and its mode.
+/// The line of a node that takes all events: their count, and then its clock, its maximum and its mode.
 fn node_line(
     alloc: Global,
     node: u32,

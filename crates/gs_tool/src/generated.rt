@@ -3,7 +3,7 @@
 ghost use Rattle.std.specs.Prelude.{◌≡◌, IfOk, IfErr};
 ghost use Rattle.gs_plan.specs.Plans.{text_of};
 ghost use Rattle.gs_gen.specs.Texts.{plan_text, script_text};
-ghost use Rattle.gs_cli.specs.inside.Stops.{EndsWith, StopsWith};
+ghost use Rattle.gs_cli.specs.Stops.{EndsWith, StopsWith};
 ghost use Rattle.gs_tool.specs.Generated.{AreAccepted, IsAnswerOf, IsGenerated, IsRefusal};
 ghost use Rattle.gs_tool.specs.Runs.{IsTold, played};
 

@@ -2,8 +2,8 @@
 
 ghost use Rattle.std.specs.Prelude.{◌≡◌, ◌≤◌, IfOk, true};
 ghost use Rattle.gs_plan.specs.Plans.{text_of};
-ghost use Rattle.gs_cli.specs.inside.Reply.{answer_in};
-ghost use Rattle.gs_cli.specs.inside.Stops.{EndsWith};
+ghost use Rattle.gs_cli.specs.Reply.{answer_in};
+ghost use Rattle.gs_cli.specs.Stops.{EndsWith};
 ghost use Rattle.gs_inputs.specs.Inputs.{IsAnswerOver};
 ghost use Rattle.gs_tool.specs.Orders.{ordered};
 ghost use Rattle.gs_tool.specs.Runs.{IsTold};

@@ -11,7 +11,7 @@ use gs_settle::Settled;
 use gs_text::Lines;
 use std::alloc::{AllocError, Global};
 
-/// All lines of how the levels of a plan settled over so many quanta.
+/// All lines of how the levels of a plan settled over `quanta` quanta.
 pub(crate) fn settled_text(
     alloc: Global,
     plan: &Plan,

@@ -6,12 +6,12 @@ ghost use Rattle.gs_tool.specs.AuditHeadline.{AuditsKeepBounds};
 ghost use Rattle.gs_tool.specs.AuditsComplete.{AuditsComplete};
 ghost use Rattle.gs_tool.specs.Headline.{PlaysKeepBounds};
 ghost use Rattle.gs_tool.specs.OrdersAgree.{OrdersAgree};
-ghost use Rattle.gs_cli.specs.inside.Reply.{answer_in};
+ghost use Rattle.gs_cli.specs.Reply.{answer_in};
 ghost use Rattle.gs_inputs.specs.Inputs.{IsAnswerOn, IsAnswerOver};
 ghost use Rattle.gs_tool.specs.Runs.{IsAnswer, IsCommandAnswer, IsMigrated, IsPlanned, IsTold, played};
 ghost use Rattle.gs_tool.specs.Runs.{Runs, names_no_file};
 ghost use Rattle.gs_inputs.specs.Sources.{are_built_in, is_built_in, seen};
-ghost use Rattle.gs_cli.specs.inside.Stops.{EndsWith};
+ghost use Rattle.gs_cli.specs.Stops.{EndsWith};
 
 use crate::answers::{migrated, planned, played};
 use crate::audited::{audit_answer, replay_answer};

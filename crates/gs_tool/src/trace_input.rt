@@ -5,7 +5,7 @@ ghost use Rattle.std.specs.Prelude.{IfOk, IfErr};
 ghost use Rattle.gs_inputs.specs.Inputs.{IsPlan};
 ghost use Rattle.gs_inputs.specs.Sources.{seen};
 ghost use Rattle.gs_tool.specs.TraceInputs.{AreNoTraceInputs, IsTrace};
-ghost use Rattle.gs_cli.specs.inside.Stops.{StopsWith};
+ghost use Rattle.gs_cli.specs.Stops.{StopsWith};
 
 use gs_cli::Stop;
 use gs_inputs::{Kind, plan_in, read_file, read_source};

@@ -3,5 +3,5 @@ pub mod Walks
 pub mod Faults
 pub mod Weights
 pub mod Laws
-pub mod Words
+pub mod FaultWords
 pub mod inside

@@ -26,7 +26,7 @@ pub enum TopoFault {
 
 impl fmt::Display for TopoFault {
     ghost use Rattle.std.specs.Prelude.{Some};
-    ghost use Rattle.gs_topo.specs.Words.{why_of};
+    ghost use Rattle.gs_topo.specs.FaultWords.{why_of};
 
     ghost output = { λ f. Some (why_of f) };
 

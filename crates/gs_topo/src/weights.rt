@@ -15,7 +15,7 @@ use std::marker::Model;
 /// How weights are kept.
 #[derive(Drop)]
 enum Table {
-    /// The length of all edges: a weight is so many times a distance.
+    /// The length of all edges: a weight is that many times a distance.
     Even(u64),
     /// The weight of v and w at place v * nodes + w.
     Each(Vec<u128>),

@@ -14,7 +14,7 @@ pub record IsOne {S E : Type 0} (Spelled : S → E → Type 0) (fault : Option T
   pub events_are : (s : S) (es : E) → Spelled s es → events ≡ es
   pub no_fault : (s : S) (es : E) → Spelled s es → fault ≡ None
 
--- a fault is want of memory or another
+-- a fault is `OutOfMemory` or another
 memory_or : (f : TraceFault) → (f ≡ OutOfMemory) ⊎ (f ≢ OutOfMemory)
 memory_or Header = inr (λ e. absurd (cc))
 memory_or Plan = inr (λ e. absurd (cc))
@@ -38,7 +38,7 @@ pub fault_is_named : {X S E : Type 0} (Spelled : S → E → Type 0) (fault : Op
 fault_is_named Spelled fault one start events (Ok x) ok err why e = absurd (let both : None ≡ Some why = sym (one.no_fault (start x) (events x) ok) ∙ e in cc)
 fault_is_named Spelled fault one start events (Err f) ok err why e = let both : Some f ≡ Some why = sym err ∙ e in cc
 
--- no spelling is refused, but for want of memory
+-- no spelling is refused, but where memory runs out
 pub every_spelling : {X S E : Type 0} (Spelled : S → E → Type 0) (fault : Option TraceFault) (one : IsOne Spelled fault) (start : X → S) (events : X → E) (r : Result X TraceFault)
     → IfOk r (λ x. Spelled (start x) (events x)) → IfErr r (λ f. f ≢ OutOfMemory → fault ≡ Some f)
     → (s : S) (es : E) → Spelled s es → Reads start events r s es
@@ -49,7 +49,7 @@ every_spelling Spelled fault one start events (Err f) ok err s es h = elim (memo
   | inr other ↦ absurd (let both : None ≡ Some f = sym (one.no_fault s es h) ∙ err other in cc)
 ]
 
--- and no fault is passed over, but for want of memory
+-- and no fault is passed over, but where memory runs out
 pub every_fault : {X S E : Type 0} (Spelled : S → E → Type 0) (fault : Option TraceFault) (one : IsOne Spelled fault) (start : X → S) (events : X → E) (r : Result X TraceFault)
     → IfOk r (λ x. Spelled (start x) (events x)) → IfErr r (λ f. f ≢ OutOfMemory → fault ≡ Some f)
     → (why : TraceFault) → fault ≡ Some why → FailsWith r why

@@ -4,10 +4,8 @@ pub mod Formats
 pub mod Worlds
 pub mod Nodes
 pub mod Scans
-pub mod Seen
-pub mod NodeSeen
 pub mod Firsts
 pub mod Reads
-pub mod Words
+pub mod FaultWords
 pub mod Laws
 pub mod inside

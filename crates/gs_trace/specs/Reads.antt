@@ -1,4 +1,4 @@
--- What a reader answers to bytes, want of memory aside.
+-- What a reader answers to bytes, running out of memory aside.
 use Rattle.std.specs.Prelude.{◌≡◌, ◌⊎◌, Result, Ok, Err}
 use Rattle.gs_trace.specs.declared.fault.TraceFault.{TraceFault}
 use Rattle.gs_trace.specs.declared.fault.TraceFault.TheVariants.{OutOfMemory}

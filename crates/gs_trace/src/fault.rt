@@ -25,9 +25,9 @@ pub enum TraceFault {
 
 impl fmt::Display for TraceFault {
     ghost use Rattle.std.specs.Prelude.{Some};
-    ghost use Rattle.gs_trace.specs.Words.{words_of};
+    ghost use Rattle.gs_trace.specs.FaultWords.{why_of};
 
-    ghost output = { λ fault. Some (words_of fault) };
+    ghost output = { λ fault. Some (why_of fault) };
 
     fn fmt<W: fmt::Write>(&self, f: &mut fmt::Formatter<W>) -> fmt::Result {
         match self {

@@ -12,7 +12,7 @@ use std::alloc::{AllocError, Global};
 /// The greatest clock and the greatest reading of a start, in clock units.
 const FAR: u64 = 1 << 61;
 
-/// Reads the head of the trace of a world of so many nodes of a cluster.
+/// Reads the head of the trace of a world of `nodes` nodes of a cluster.
 pub(crate) fn read_head(
     alloc: Global,
     bytes: &[u8],

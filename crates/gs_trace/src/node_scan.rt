@@ -28,7 +28,7 @@ impl<'b> Model for NodeScan<'b> {
 
     ghost Value = { List NodeEvent };
 
-    ghost use Rattle.gs_trace.specs.NodeSeen.{node_left, IsNodeScan};
+    ghost use Rattle.gs_trace.specs.inside.NodeSeen.{node_left, IsNodeScan};
 
     ghost view = { node_left };
 

@@ -36,7 +36,7 @@ pub fn read_world(
     read(alloc, bytes, plan.text().cluster, plan.topo().nodes())
 }
 
-/// The same for a world of so many nodes of a cluster.
+/// The same for a world of `nodes` nodes of a cluster.
 fn read(
     alloc: Global,
     bytes: &[u8],

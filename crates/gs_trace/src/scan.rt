@@ -42,7 +42,7 @@ impl<'b> Model for WorldScan<'b> {
 
     ghost Value = { WorldLeft };
 
-    ghost use Rattle.gs_trace.specs.Seen.{world_left, IsWorldScan};
+    ghost use Rattle.gs_trace.specs.inside.Seen.{world_left, IsWorldScan};
 
     ghost view = { world_left };
 
@@ -73,7 +73,7 @@ pub fn scan_world<'b>(
     scan(alloc, bytes, plan.text().cluster, plan.topo().nodes())
 }
 
-/// The same for a world of so many nodes of a cluster.
+/// The same for a world of `nodes` nodes of a cluster.
 pub(crate) fn scan<'b>(
     alloc: Global,
     bytes: &'b [u8],
@@ -128,7 +128,7 @@ fn admit_event(bytes: &[u8], at: usize, nodes: u32) -> Result<usize, TraceFault>
     Ok(size)
 }
 
-/// The number of bytes of an event of a kind, in a world of so many nodes.
+/// The number of bytes of an event of a kind, in a world of `nodes` nodes.
 fn size(kind: u8, nodes: u32) -> Option<usize>
     ensures value { result ≡ size_of nodes kind }
     ensures small { IfSome result (λ size. (1 ≤ size) × (size ≤ 2 ^ 40)) }

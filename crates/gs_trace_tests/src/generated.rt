@@ -16,7 +16,7 @@ losses = 3
 age = 412
 ";
 
-// Of number 1, with draws that a generator written apart from the published description gave.
+/// Of number 1, with draws that a generator written apart from the published description gave.
 const SCRIPT: &str = "quanta,4000
 drift,0,1,4000,10000
 tick,0,1,4000,79

@@ -401,7 +401,7 @@ fn has_words(alloc: Global, fault: TraceFault, words: &str) -> bool {
 }
 
 #[test]
-fn faults_have_words(rt: HostRuntime) {
+fn the_words_of_each_fault_are_those_of_the_format(rt: HostRuntime) {
     let alloc = rt.alloc();
     assert!(rt; has_words(alloc, TraceFault::Plan, "plan"));
     assert!(rt; has_words(alloc, TraceFault::Cut(3856), "cut 3856"));

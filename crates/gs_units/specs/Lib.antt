@@ -7,4 +7,4 @@ pub mod Offsets
 pub mod Growth
 pub mod Params
 pub mod Equality
-pub mod Words
+pub mod FaultWords

@@ -28,7 +28,7 @@ pub enum RateFault {
 }
 
 impl fmt::Display for RateFault {
-    ghost use Rattle.gs_units.specs.Words.{why_of};
+    ghost use Rattle.gs_units.specs.FaultWords.{why_of};
 
     ghost output = { λ f. Some (why_of f) };
 

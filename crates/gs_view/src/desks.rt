@@ -34,7 +34,7 @@ impl Model for Desk {
 }
 
 impl Desk {
-    /// A desk that has published nothing, with room for so many handles.
+    /// A desk that has published nothing, with room for `handles` handles.
     pub fn new(alloc: Global, handles: usize) -> Result<Desk, AllocError>
         requires { (0 < handles) × (handles < 2 ^ 32) }
         ensures { IfOk result (λ desk. desk ≡ []) }
@@ -111,7 +111,7 @@ impl Desk {
     }
 }
 
-// Shows the one snap that is pending.
+/// Shows the one snap that is pending.
 fn show<R: Wait>(rt: &R, out: Out, snap: Snap) -> Out
     requires shown { Shows out.desk.shown.value (known_at out.desk.place) }
     requires pending { drop out.behind out.log.items ≡ record { count = out.desk.shown.value.count + 1; last = Some snap } ∷ [] }
@@ -124,7 +124,7 @@ fn show<R: Wait>(rt: &R, out: Out, snap: Snap) -> Out
     out
 }
 
-// Tells a new reader what the publisher knows.
+/// Tells a new reader what the publisher knows.
 fn told(out: &mut Out, inner: Inner) -> Inner
     requires table { inner.place.table_id ≡ out.old.desk.place.table_id }
     requires new { known_at inner.place ≡ [] }
@@ -139,7 +139,7 @@ fn told(out: &mut Out, inner: Inner) -> Inner
     inner
 }
 
-// A reader at a place of the desk. There was one when `publish` looked, and only `publish` takes places.
+/// A reader at a place of the desk. There was one when `publish` looked, and only `publish` takes places.
 fn seated<R: Wait>(rt: &R, out: &Out) -> Inner
     ensures table { result.place.table_id ≡ out.now.desk.place.table_id }
     ensures known { known_at result.place ≡ [] }

@@ -10,7 +10,7 @@ use std::alloc::{AllocError, Global};
 use std::marker::Model;
 use std::sync::Wait;
 
-// The reader, and the notes that are neither learnt nor let go, have a place each.
+/// The reader, and the notes that are neither learnt nor let go, have a place each.
 const PLACES: usize = 64;
 
 /// Publishes a clock, one snap after the other. Contracts see it as the list of the snaps that it has
@@ -66,7 +66,7 @@ impl Publisher {
     }
 
     /// Publishes a snap behind the others, and tells of it by a note. It waits for readers that are
-    /// still inside the older copy. It fails for want of memory or, while some 60 notes are neither
+    /// still inside the older copy. It fails where memory runs out or, while some 60 notes are neither
     /// learnt nor let go, of a place for one more; the list is then as it was.
     pub fn publish<R: Wait>(&mut self, rt: &R, snap: Snap) -> Result<Note, AllocError>
         requires { last_place 0 self.old ≤ snap.place }

@@ -41,8 +41,8 @@ impl Model for Reader {
 }
 
 impl Reader {
-    // A reader that knows what its handle does, or the first snap alone where it has none; then it will
-    // know no other until it learns a note.
+    /// A reader that knows what its handle does, or the first snap alone where it has none; then it will
+    /// know no other until it learns a note.
     pub(crate) fn over(rate: Rate, first: Snap, shown: Shown, handle: Option<Handle>) -> Reader
         requires { Shows shown (or_none handle) }
         ensures { result ≡ record { rate = rate; snaps = first ∷ or_none handle; answer = 0 } }
@@ -116,7 +116,7 @@ impl Reader {
     }
 }
 
-// What a note knows once it has looked: all that is published, or the same where the publisher has ended.
+/// What a note knows once it has looked: all that is published, or the same where the publisher has ended.
 fn renewed(handle: Handle, shown: Shown) -> (Handle, Shown)
     requires { Shows shown handle }
     ensures { StartsWith result.0 handle × Shows result.1 result.0 }
@@ -127,7 +127,7 @@ fn renewed(handle: Handle, shown: Shown) -> (Handle, Shown)
     }
 }
 
-// The clock of a snap at a reading.
+/// The clock of a snap at a reading.
 fn value(rate: &Rate, snap: &Snap, hw: u64) -> u64
     ensures { result ≡ value_of rate.now snap.now hw }
 {

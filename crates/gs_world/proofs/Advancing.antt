@@ -27,7 +27,7 @@ use Rattle.gs_run.specs.Net.{Net, neighbours}
 use Rattle.gs_run.specs.Nets.{net_of}
 use Rattle.gs_world.specs.Placed.{Placed}
 use Rattle.gs_world.specs.inside.Members.{AreSlowClocks, IsReadable, IsMember, advance_members, advanced_seat, clock_at, member_of, sums}
-use Rattle.gs_world.specs.Seen.{IsInside, placed_of, world_in}
+use Rattle.gs_world.specs.inside.Seen.{IsInside, placed_of, world_in}
 use Rattle.gs_run.specs.Why.{drifts, is_due_at, is_stale, stale_at, stale_of, stale_place, why}
 use Rattle.gs_run.specs.World.{Member, World, advanced, clocks_in, effect, member, nobody}
 use Rattle.gs_run.specs.declared.refused.Refused.{Refused}

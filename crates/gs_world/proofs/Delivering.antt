@@ -29,7 +29,7 @@ use Rattle.gs_run.specs.Nets.{net_of}
 use Rattle.gs_world.specs.Placed.{Placed}
 use Rattle.gs_run.specs.Reach.{IsReachable}
 use Rattle.gs_run.specs.Run.{ends, later_ends}
-use Rattle.gs_world.specs.Seen.{IsInside, placed_of, world_in}
+use Rattle.gs_world.specs.inside.Seen.{IsInside, placed_of, world_in}
 use Rattle.gs_run.specs.Why.{why}
 use Rattle.gs_run.specs.World.{Member, Sent, World, clocks_in, effect, heard_member, is_newer, member, sent_by, with_member, world_from}
 use Rattle.gs_world.specs.declared.delay.Delay.{Delay}

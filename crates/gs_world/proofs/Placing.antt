@@ -18,7 +18,7 @@ use Rattle.gs_run.specs.Net.{Net, neighbours, params_of}
 use Rattle.gs_run.specs.Nets.{net_of}
 use Rattle.gs_world.specs.Placed.{Placed}
 use Rattle.gs_run.specs.Reach.{IsReachable}
-use Rattle.gs_world.specs.Seen.{IsInside, placed_of, world_in}
+use Rattle.gs_world.specs.inside.Seen.{IsInside, placed_of, world_in}
 use Rattle.gs_run.specs.Why.{why}
 use Rattle.gs_run.specs.World.{Member, World, clocks_in, effect, member, nobody, ticked_member, with_member}
 use Rattle.gs_world.specs.declared.deadlines.Deadlines.{Deadlines}

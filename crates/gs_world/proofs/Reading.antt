@@ -9,7 +9,7 @@ use Rattle.gs_run.specs.Net.{Net}
 use Rattle.gs_run.specs.Nets.{net_of}
 use Rattle.gs_world.specs.Placed.{Placed}
 use Rattle.gs_world.specs.inside.Members.{clock_at, member_of}
-use Rattle.gs_world.specs.Seen.{IsInside, placed_of, world_in}
+use Rattle.gs_world.specs.inside.Seen.{IsInside, placed_of, world_in}
 use Rattle.gs_run.specs.World.{World, clock_in, clocks_in, nobody}
 use Rattle.gs_world.specs.declared.member.Member.{Member as Seat}
 use Rattle.gs_world.specs.declared.world.World.TheInside.{Inside}

@@ -1,4 +1,4 @@
--- Which events may want memory.
+-- Which events may take memory.
 use Rattle.std.specs.Prelude.{⊤}
 use Rattle.gs_core.specs.declared.event.Event.{Event}
 use Rattle.gs_core.specs.declared.event.Event.TheVariants.{Quantum, Tick, Deliver}

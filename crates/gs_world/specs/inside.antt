@@ -4,3 +4,4 @@ pub mod Admitted
 pub mod Delays
 pub mod Late
 pub mod Members
+pub mod Seen

@@ -41,7 +41,7 @@ fn renew(members: &[Member], clocks: &mut [u64])
     }
 }
 
-/// One quantum of all clocks, where the members have had theirs and so many nodes are fast. In the slow
+/// One quantum of all clocks, where the members have had theirs and `fast` nodes are fast. In the slow
 /// mode a clock grows as its hardware reading.
 pub(crate) fn advance_clocks(members: &[Member], fast: u32, incs: &[u32], clocks: &mut [u64])
     requires count { length incs.now ≡ length clocks.old }

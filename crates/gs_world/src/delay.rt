@@ -17,7 +17,7 @@ pub(crate) struct Delay {
 }
 
 impl Delay {
-    /// Why a newer beacon that was sent in this quantum may not come after so many quanta.
+    /// Why a newer beacon that was sent in quantum `sent` may not come after `quanta` quanta.
     pub(crate) fn admit(self, sent: u32, quanta: u32) -> Result<(), Refused>
         ensures ok { OnOk result (age_refused self sent quanta ≡ None) }
         ensures err { IfErr result (λ refused. age_refused self sent quanta ≡ Some refused) }

@@ -87,7 +87,7 @@ impl Member {
         self.core.newest(i) < seq
     }
 
-    /// A tick after so many quanta, which has no fault. A refusal of memory changes nothing. See
+    /// A tick after `quanta` quanta, which has no fault. A refusal of memory changes nothing. See
     /// `docs/MODEL.md`, rule 11.
     pub(crate) fn tick(&mut self, quanta: u32) -> Result<(), AllocError>
         requires { length self.old.sent.items < 2 ^ 64 - 1

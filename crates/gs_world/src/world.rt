@@ -36,7 +36,7 @@ impl<'p> Model for World<'p> {
 
     ghost Value = { Placed };
 
-    ghost use Rattle.gs_world.specs.Seen.{placed_of, IsInside};
+    ghost use Rattle.gs_world.specs.inside.Seen.{placed_of, IsInside};
 
     ghost view = { placed_of };
 
@@ -107,7 +107,7 @@ impl<'p> World<'p> {
     }
 
     /// One event, where it is allowed: `docs/MODEL.md`, rules 10 to 12. A refusal changes nothing, and
-    /// only a tick may want memory.
+    /// only a tick may take memory.
     pub fn step(&mut self, event: &Event) -> Result<(), Refused>
         ensures plan { self.new.plan ≡ self.old.plan }
         ensures allowed { OnOk result (why (net_of self.old.plan) self.old.world event.now ≡ None) }

@@ -114,7 +114,7 @@ fn is_fast_behind_a_neighbour(rt: HostRuntime) -> Result<(), Fail> {
 }
 
 #[test]
-fn refuses_in_order(rt: HostRuntime) -> Result<(), Fail> {
+fn a_beacon_is_refused_by_the_first_cause_in_order(rt: HostRuntime) -> Result<(), Fail> {
     let rate = Rate::new(10_000, 10_001, 2_000)?;
     let mut core = Core::start(rt.alloc(), pair(rt.alloc(), rate, 1)?, 1_000, 1_000)?;
     let fell = CoreFault::Backward {
@@ -180,7 +180,7 @@ fn sends_a_beacon_at_every_second_tick(rt: HostRuntime) -> Result<(), Fail> {
 }
 
 #[test]
-fn steps_by_events(rt: HostRuntime) -> Result<(), Fail> {
+fn a_step_is_a_tick_or_a_delivery(rt: HostRuntime) -> Result<(), Fail> {
     let rate = Rate::new(10_000, 10_001, 2_000)?;
     let mut core = Core::start(rt.alloc(), pair(rt.alloc(), rate, 2)?, 0, 0)?;
     assert_eq!(rt; core.newest(0), 0);

@@ -4,7 +4,7 @@ use gs_units::{Link, Mode};
 // Each case has the offset of the only neighbour, how far the clock is behind the maximum, and the
 // mode.
 #[test]
-fn modes(rt: HostRuntime) {
+fn the_mode_is_by_the_triggers_and_then_by_the_maximum(rt: HostRuntime) {
     let links = [Link {
         node: 1,
         comp: 70_000,

@@ -18,7 +18,7 @@ fn link(kappa: u64, delta: u64) -> Link
 // Each case has the offsets, and the levels of the fast and of the slow trigger.
 
 #[test]
-fn one_neighbour_or_none(rt: HostRuntime) {
+fn one_neighbour_decides_alone_and_none_never(rt: HostRuntime) {
     assert_eq!(rt; (fast(&[], &[]), slow(&[], &[])), (None, None));
     let links = [link(122_529, 61_264)];
     let cases = [
@@ -57,7 +57,7 @@ fn one_neighbour_keeps_the_other(rt: HostRuntime) {
 }
 
 #[test]
-fn links_of_different_sizes(rt: HostRuntime) {
+fn each_link_counts_by_its_own_kappa_and_delta(rt: HostRuntime) {
     let links = [link(100, 10), link(1000, 100)];
     let cases = [
         (90i64, 0i64, Some(1u64), None),

@@ -228,7 +228,7 @@ fn ends(alloc: Global, plan: &Plan) -> bool {
 
 /// A world of one node takes all its quanta, where it ticks in time.
 #[test]
-fn quanta_end(rt: HostRuntime) {
+fn a_world_takes_all_its_quanta_and_no_more(rt: HostRuntime) {
     let alloc = rt.alloc();
     let mut text = base(alloc, 1);
     text.tick = 65_536;

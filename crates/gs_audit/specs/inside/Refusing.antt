@@ -5,7 +5,7 @@ use Rattle.gs_run.specs.declared.refused.Refused.TheVariants.{OutOfMemory}
 use Rattle.gs_audit.specs.declared.verdict.Verdict.{Verdict}
 use Rattle.gs_audit.specs.declared.verdict.Verdict.TheVariants as verdict
 
--- the verdict that names it, or want of memory where that is why
+-- the verdict that names it, or `OutOfMemory` where that is why
 abbrev pub Refuses : {E : Type 0} → Result Verdict E → ℕ → Refused → Type 0
 Refuses (Ok v) index why = (why ≢ OutOfMemory) × (v ≡ verdict.Refused index why)
 Refuses (Err e) index why = why ≡ OutOfMemory

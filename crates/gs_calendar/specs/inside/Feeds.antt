@@ -2,10 +2,8 @@
 use Rattle.std.specs.Prelude.{◌≡◌, ℕ, suc, ◌+◌, ◌-◌, ◌<◌, ◌≤◌, ◌==◌, ◌⊎◌, List, [], ◌∷◌, ◌++◌, filter, if◌then◌else◌, length, map, slice_index_or, slice_set}
 use Rattle.std.specs.BTreeSet.{insert_key}
 use Rattle.std.specs.List.{flat_map, range_with_len}
-use Rattle.gs_planfile.specs.declared.text.PlanText.{PlanText}
 use Rattle.gs_core.specs.declared.event.Event.{Event}
 use Rattle.gs_core.specs.declared.event.Event.TheVariants.{Tick, Deliver}
-use Rattle.gs_script.specs.Script.{Said, IsScript}
 use Rattle.gs_run.specs.Net.{Net, neighbours}
 use Rattle.gs_calendar.specs.Due.{Key}
 use Rattle.gs_calendar.specs.Calendar.{Turn}
@@ -13,7 +11,7 @@ use Rattle.gs_calendar.specs.Course.{Course}
 use Rattle.gs_calendar.specs.Calendar.{turn, first_turn}
 use Rattle.gs_calendar.specs.Events.{events_from}
 use Rattle.gs_calendar.specs.Due.{due_by, due_after, key_cmp}
-use Rattle.gs_calendar.specs.inside.Transits.{Has, AreInOrder, Comes, InTransit, IsCovering}
+use Rattle.gs_calendar.specs.Transits.{Has, AreInOrder, Comes, InTransit, IsCovering}
 
 -- what is in transit to node v
 abbrev pub waiting : List (List Key) → ℕ → List Key
@@ -90,11 +88,6 @@ abbrev pub sent_to : Course → ℕ → ℕ → ℕ → ℕ → List (List Key) 
 sent_to c from to t seq lists =
     if c.lost from to t then lists
     else slice_set lists to (insert_key key_cmp (waiting lists to) (key_of c from to t seq))
-
--- a script was read for the plan of this text
-pub record IsReadFor (t : PlanText) (s : Said) : Type 0 where
-  pub text : s.text ≡ t
-  pub bounds : IsScript s
 
 -- what is true of a feed in quantum t, once the receivers below `to` and the nodes below `at` are done
 pub record IsFeed (net : Net) (c : Course) (t to at : ℕ) (turns next : List Turn) (lists : List (List Key)) : Type 0 where

@@ -5,7 +5,7 @@ use Rattle.gs_net.specs.declared.items.LinkStop.{LinkStop}
 use Rattle.gs_net.specs.declared.items.LinkStop.TheVariants as link
 use Rattle.gs_board.specs.declared.faults.BoardStop.{BoardStop}
 use Rattle.gs_board.specs.declared.faults.BoardStop.TheVariants as board
-use Rattle.gs_cli.specs.inside.Reply.{answer_in}
+use Rattle.gs_cli.specs.Reply.{answer_in}
 use Rattle.gs_cli.specs.declared.status.Status.{Status}
 use Rattle.gs_cli.specs.declared.status.Status.TheVariants as status
 use Rattle.gs_cli.specs.declared.stop.Stop.{Stop}
@@ -27,7 +27,7 @@ link_status link.OutOfMemory = status.OutOfMemory
 abbrev pub Unlent : ℕ → ℕ → Status → Type 0
 Unlent before after end = ((end ≡ status.LinkFault) × Rose before after) ⊎ (end ≡ status.OutOfMemory)
 
--- with the status of the reply, whose line is said; or for want of memory, and nothing is said
+-- with the status of the reply, whose line is said; or memory runs out, and nothing is said
 abbrev pub Refuses : Stop → Option (List ℕ) → Option (List ℕ) → ℕ → ℕ → Status → Type 0
 Refuses (Refused reply) old new before after end = (end ≡ (answer_in reply).status) × Says (answer_in reply).text old new before after
 Refuses OutOfMemory old new before after end = (end ≡ status.OutOfMemory) × (new ≡ old)

@@ -23,7 +23,7 @@ abbrev pub after_fault : Status → Status
 after_fault status.Done = status.WriteFault
 after_fault end = end
 
--- and want of memory for it always
+-- and running out of memory for it always
 abbrev pub after_trace : {T : Type 0} → Status → Result T TraceStop → Status
 after_trace end (Ok done) = end
 after_trace end (Err stop.OutOfMemory) = status.OutOfMemory

@@ -1,4 +1,4 @@
-use Rattle.gs_inputs.specs.inside.SourceSeen.{source_in}
+use Rattle.gs_inputs.specs.SourceSeen.{source_in}
 use Rattle.gs_inputs.proofs.Reading.{script_stops}
 use Rattle.gs_inputs.proofs.inputs.accepted.Goals as goal
 

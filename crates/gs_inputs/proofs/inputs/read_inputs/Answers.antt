@@ -1,6 +1,6 @@
 -- What was given in the first or the second read was given over both.
 use Rattle.std.proofs.Common.{refl}
-use Rattle.gs_inputs.specs.inside.SourceSeen.{source_in}
+use Rattle.gs_inputs.specs.SourceSeen.{source_in}
 use Rattle.gs_inputs.specs.Sources.{FilesSeen, seen}
 use Rattle.gs_inputs.proofs.Reading.{no_script, none_accepted}
 use Rattle.gs_inputs.proofs.inputs.read_inputs.Goals as goal

@@ -4,7 +4,7 @@ use Rattle.gs_run.specs.Net.{Net}
 use Rattle.gs_calendar.specs.Course.{Course}
 use Rattle.gs_piece.specs.Columns.{clock_at}
 use Rattle.gs_piece.specs.Pieces.{fast_among}
-use Rattle.gs_play.specs.Pieces.{HaveRows}
+use Rattle.gs_play.specs.inside.Pieces.{HaveRows}
 use Rattle.gs_play.proofs.gathering.gather.Given as goal
 
 abbrev pub invariant-loop-i : goal.invariant-loop-i

@@ -3,7 +3,7 @@ use Rattle.std.proofs.lemmas.Bool.{cases_eq}
 use Rattle.std.proofs.lemmas.List.{get_or_default}
 use Rattle.gs_piece.specs.Pieces.{IsPiece, IsPieceIn}
 use Rattle.gs_piece.specs.declared.piece.Piece.{Piece}
-use Rattle.gs_play.specs.Pieces.{CanEnd}
+use Rattle.gs_play.specs.inside.Pieces.{CanEnd}
 use Rattle.gs_play.proofs.handing.end_windows.Goals as goal
 
 pub loop-i-init : goal.loop-i-init

@@ -2,7 +2,7 @@ use Rattle.std.proofs.Common.{ℕ, ◌*◌, ◌<◌, ◌≤◌, []}
 use Rattle.gs_run.specs.Net.{Net}
 use Rattle.gs_calendar.specs.Course.{Course}
 use Rattle.gs_seat.specs.Held.{AreSentIn}
-use Rattle.gs_play.specs.Pieces.{ArePieces}
+use Rattle.gs_play.specs.inside.Pieces.{ArePieces}
 use Rattle.gs_play.proofs.handing.first_sender.Given as goal
 
 abbrev pub invariant-loop-i : goal.invariant-loop-i

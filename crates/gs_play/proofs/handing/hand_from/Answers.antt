@@ -8,7 +8,7 @@ use Rattle.gs_calendar.proofs.OnTheWay.{item_is}
 use Rattle.gs_seat.specs.Held.{AreSentIn}
 use Rattle.gs_piece.specs.Nodes.{handed_to}
 use Rattle.gs_piece.proofs.Turns.{no_items}
-use Rattle.gs_play.specs.Pieces.{ArePieces, handed_below}
+use Rattle.gs_play.specs.inside.Pieces.{ArePieces, handed_below}
 use Rattle.gs_play.proofs.FromOne.{IsHanding, handing_begins, handing_ends, handing_next, none_hands}
 use Rattle.gs_play.proofs.Giving.{piece_of}
 use Rattle.gs_play.proofs.handing.hand_from.Goals as goal

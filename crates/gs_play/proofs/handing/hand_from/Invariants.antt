@@ -2,7 +2,7 @@ use Rattle.std.proofs.Common.{ℕ, ◌≤◌}
 use Rattle.gs_run.specs.Nets.{net_of}
 use Rattle.gs_calendar.specs.Course.{course_of}
 use Rattle.gs_seat.specs.Held.{IsWindow}
-use Rattle.gs_play.specs.Pieces.{ArePieces, handed_below}
+use Rattle.gs_play.specs.inside.Pieces.{ArePieces, handed_below}
 use Rattle.gs_play.proofs.FromOne.{IsHanding}
 use Rattle.gs_play.proofs.handing.hand_from.Given as goal
 

@@ -3,7 +3,7 @@ use Rattle.gs_plan.proofs.Telling.{plan_is_graph}
 use Rattle.gs_run.specs.Nets.{net_of}
 use Rattle.gs_calendar.specs.Course.{course_of}
 use Rattle.gs_piece.specs.Senders.{IsFirstSender, NoneSends}
-use Rattle.gs_play.specs.Pieces.{ArePieces, handed_below}
+use Rattle.gs_play.specs.inside.Pieces.{ArePieces, handed_below}
 use Rattle.gs_play.proofs.FromOne.{below_all, below_begins, none_hand}
 use Rattle.gs_play.proofs.handing.hand_over.Goals as goal
 

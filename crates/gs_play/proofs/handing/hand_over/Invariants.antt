@@ -2,7 +2,7 @@ use Rattle.std.proofs.Common.{◌≡◌, ℕ, ◌-◌, ◌≤◌, length}
 use Rattle.gs_run.specs.Nets.{net_of}
 use Rattle.gs_calendar.specs.Course.{course_of}
 use Rattle.gs_seat.specs.Held.{IsWindow}
-use Rattle.gs_play.specs.Pieces.{ArePieces, ArePiecesIn, handed_below}
+use Rattle.gs_play.specs.inside.Pieces.{ArePieces, ArePiecesIn, handed_below}
 use Rattle.gs_play.proofs.handing.hand_over.Given as goal
 
 abbrev pub invariant-loop-from : goal.invariant-loop-from

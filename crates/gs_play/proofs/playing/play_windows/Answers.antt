@@ -14,7 +14,7 @@ use Rattle.gs_calendar.specs.Stops.{StopsAt}
 use Rattle.gs_calendar.proofs.Fitting.{fits}
 use Rattle.gs_calendar.proofs.Staleness.{script_breach_is}
 use Rattle.gs_calendar.proofs.Stopping.{stops_for_memory}
-use Rattle.gs_play.specs.Player.{HasPlayed}
+use Rattle.gs_play.specs.inside.Player.{HasPlayed}
 use Rattle.gs_play.proofs.playing.play_windows.Goals as goal
 
 pub returns-in_err-window-clause-stop : goal.returns-in_err-window-clause-stop

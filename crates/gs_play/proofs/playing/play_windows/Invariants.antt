@@ -1,5 +1,5 @@
 use Rattle.std.proofs.Common.{◌-◌}
-use Rattle.gs_play.specs.Player.{IsPlayerAt}
+use Rattle.gs_play.specs.inside.Player.{IsPlayerAt}
 use Rattle.gs_play.proofs.playing.play_windows.Given as goal
 
 abbrev pub invariant-loop-player : goal.invariant-loop-player

@@ -2,7 +2,7 @@ use Rattle.std.proofs.Common.{◌≡◌, ℕ, suc, ◌*◌, ◌<◌, None}
 use Rattle.gs_run.specs.Nets.{net_of}
 use Rattle.gs_calendar.specs.Course.{Course}
 use Rattle.gs_calendar.specs.Stale.{first_stale}
-use Rattle.gs_play.specs.Pieces.{ArePieces}
+use Rattle.gs_play.specs.inside.Pieces.{ArePieces}
 use Rattle.gs_play.proofs.staleness.breach.Given as goal
 
 abbrev pub invariant-loop-i : goal.invariant-loop-i

@@ -1,6 +1,6 @@
 use Rattle.std.proofs.Common.{◌≡◌, drop}
 use Rattle.gs_plan.specs.Plans.{text_of}
-use Rattle.gs_play.specs.Windows.{least_delay}
+use Rattle.gs_play.specs.inside.Windows.{least_delay}
 use Rattle.gs_play.proofs.window.least_delay.Given as goal
 
 abbrev pub invariant-loop-span : goal.invariant-loop-span

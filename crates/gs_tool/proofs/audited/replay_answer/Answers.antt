@@ -1,5 +1,5 @@
 use Rattle.std.proofs.Common.{inl, subst, List, ℕ}
-use Rattle.gs_cli.specs.inside.Reply.{answer_in}
+use Rattle.gs_cli.specs.Reply.{answer_in}
 use Rattle.gs_tool.specs.Audited.{IsReplayed}
 use Rattle.gs_inputs.specs.Sources.{FilesSeen, seen}
 use Rattle.gs_tool.proofs.TracesRead.{none_along}

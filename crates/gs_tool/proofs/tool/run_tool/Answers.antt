@@ -1,10 +1,10 @@
 -- Both kinds of a reply answer the words, and so does a trace.
 use Rattle.std.proofs.Common.{Some, map, string_bytes, ◌∙◌, ap, subst}
-use Rattle.gs_cli.specs.inside.Reply.{answer_in}
+use Rattle.gs_cli.specs.Reply.{answer_in}
 use Rattle.gs_tool.specs.inside.Meaning.{meaning}
 use Rattle.gs_tool.specs.Runs.{IsAnswer}
 use Rattle.gs_inputs.specs.Sources.{FilesSeen, seen}
-use Rattle.gs_cli.specs.inside.Stops.{StopsWith}
+use Rattle.gs_cli.specs.Stops.{StopsWith}
 use Rattle.gs_tool.proofs.AuditsDone.{audits_complete, audits_keep_bounds}
 use Rattle.gs_tool.proofs.Completing.{answers_complete}
 use Rattle.gs_tool.proofs.Done.{answers_keep_bounds}

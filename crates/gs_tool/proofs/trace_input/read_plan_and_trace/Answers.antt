@@ -1,5 +1,5 @@
 use Rattle.std.proofs.Common.{refl}
-use Rattle.gs_inputs.specs.inside.SourceSeen.{source_in}
+use Rattle.gs_inputs.specs.SourceSeen.{source_in}
 use Rattle.gs_inputs.specs.Sources.{FilesSeen, seen}
 use Rattle.gs_tool.proofs.TracesRead.{no_plan_of_both, no_trace}
 use Rattle.gs_tool.proofs.trace_input.read_plan_and_trace.Goals as goal

@@ -1,7 +1,7 @@
 -- A trace answers its words, and so does what refuses its inputs.
 use Rattle.std.proofs.Common.{inl, inr, refl, subst}
-use Rattle.gs_cli.specs.inside.Reply.{answer_in}
-use Rattle.gs_cli.specs.inside.Stops.{StopsWith}
+use Rattle.gs_cli.specs.Reply.{answer_in}
+use Rattle.gs_cli.specs.Stops.{StopsWith}
 use Rattle.gs_inputs.specs.Inputs.{AreNoInputs}
 use Rattle.gs_inputs.specs.Sources.{FilesSeen, seen}
 use Rattle.gs_tool.specs.Traced.{traced}

@@ -6,7 +6,7 @@ use Rattle.gs_calendar.specs.Stale.{breach_upto}
 use Rattle.gs_calendar.specs.Stops.{StopsAt}
 use Rattle.gs_seat.specs.inside.Freshness.{AreFresh}
 use Rattle.gs_piece.specs.Nodes.{none_handed}
-use Rattle.gs_play.specs.Pieces.{ArePiecesIn}
+use Rattle.gs_play.specs.inside.Pieces.{ArePiecesIn}
 use Rattle.gs_play.proofs.OneWindow.{at_own}
 use Rattle.gs_play.proofs.player.Player.next_window.Goals as goal
 

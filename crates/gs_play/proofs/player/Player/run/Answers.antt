@@ -5,9 +5,9 @@ use Rattle.gs_run.specs.Nets.{net_of}
 use Rattle.gs_calendar.specs.Course.{course_of}
 use Rattle.gs_seat.proofs.Aging.{fresh_window}
 use Rattle.gs_piece.specs.declared.piece.Piece.{Piece}
-use Rattle.gs_play.specs.Pieces.{ArePiecesIn, HaveRows}
-use Rattle.gs_play.specs.Player.{IsPlayerAt}
-use Rattle.gs_play.specs.Totals.{AreTotals}
+use Rattle.gs_play.specs.inside.Pieces.{ArePiecesIn, HaveRows}
+use Rattle.gs_play.specs.inside.Player.{IsPlayerAt}
+use Rattle.gs_play.specs.inside.Totals.{AreTotals}
 use Rattle.gs_play.specs.declared.player.Player.{Player}
 use Rattle.gs_play.proofs.OneWindow.{calm_of, for_own, ready_of, run_of, some_pieces, window_of}
 use Rattle.gs_play.proofs.player.Player.run.Goals as goal

@@ -5,8 +5,8 @@ use Rattle.gs_run.proofs.PlanNumbers.{plan_has_numbers}
 use Rattle.gs_calendar.specs.Course.{course_of}
 use Rattle.gs_seat.specs.inside.Freshness.{AreFresh}
 use Rattle.gs_seat.proofs.Aging.{fresh_first}
-use Rattle.gs_play.specs.Pieces.{ArePiecesIn}
-use Rattle.gs_play.specs.Totals.{AreTotals}
+use Rattle.gs_play.specs.inside.Pieces.{ArePiecesIn}
+use Rattle.gs_play.specs.inside.Totals.{AreTotals}
 use Rattle.gs_play.proofs.OneWindow.{few_pieces}
 use Rattle.gs_play.proofs.player.Player.start.Goals as goal
 

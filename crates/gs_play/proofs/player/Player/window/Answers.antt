@@ -1,5 +1,5 @@
 use Rattle.std.proofs.Common.{◌<◌, ◌+◌, ℕ, arith, sym, subst, rules}
-use Rattle.gs_play.specs.Player.{HasPlayed, IsPlayerAt, IsPlayerFor}
+use Rattle.gs_play.specs.inside.Player.{HasPlayed, IsPlayerAt, IsPlayerFor}
 use Rattle.gs_play.proofs.player.Player.window.Goals as goal
 
 pub returns-clause-ok : goal.returns-clause-ok

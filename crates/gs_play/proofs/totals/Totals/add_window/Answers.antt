@@ -1,7 +1,7 @@
 use Rattle.std.proofs.Common.{◌≡◌, suc, ◌+◌, arith, subst, rules}
 use Rattle.gs_run.specs.Nets.{net_of}
 use Rattle.gs_calendar.specs.Course.{course_of}
-use Rattle.gs_play.specs.Totals.{AreTotals}
+use Rattle.gs_play.specs.inside.Totals.{AreTotals}
 use Rattle.gs_play.proofs.Moving.{calm_earlier}
 use Rattle.gs_play.proofs.totals.Totals.add_window.Goals as goal
 

@@ -2,8 +2,8 @@ use Rattle.std.proofs.Common.{ℕ, ◌+◌}
 use Rattle.gs_run.specs.Nets.{net_of}
 use Rattle.gs_script.specs.Script.{Said}
 use Rattle.gs_calendar.specs.Course.{course_of}
-use Rattle.gs_play.specs.Pieces.{HaveRows}
-use Rattle.gs_play.specs.Totals.{AreTotals, IsCalm}
+use Rattle.gs_play.specs.inside.Pieces.{HaveRows}
+use Rattle.gs_play.specs.inside.Totals.{AreTotals, IsCalm}
 use Rattle.gs_play.proofs.totals.Totals.add_window.Given as goal
 
 abbrev pub invariant-loop-j : goal.invariant-loop-j

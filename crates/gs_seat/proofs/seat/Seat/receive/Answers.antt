@@ -4,12 +4,12 @@ use Rattle.gs_run.specs.Net.{place_of}
 use Rattle.gs_run.specs.Nets.{net_of}
 use Rattle.gs_run.proofs.PlanNumbers.{plan_has_numbers}
 use Rattle.gs_calendar.specs.Course.{course_of}
-use Rattle.gs_calendar.specs.inside.Transits.{Has}
+use Rattle.gs_calendar.specs.Transits.{Has}
 use Rattle.gs_calendar.proofs.Arrivals.{place_is_inside}
 use Rattle.gs_calendar.proofs.OnTheWay.{is_neighbour, neighbour_is}
 use Rattle.gs_seat.specs.Letters.{Letter, key_of, keys, put_letter}
 use Rattle.gs_seat.specs.Held.{handed}
-use Rattle.gs_seat.specs.inside.Ways.{HoldsWays}
+use Rattle.gs_seat.specs.Ways.{HoldsWays}
 use Rattle.gs_seat.proofs.Reading.{course_is, due_soon, few_places, has_place, letter_is, place_read, said_near, said_receiver}
 use Rattle.gs_seat.proofs.Known.{IsAsked, ways_asked}
 use Rattle.gs_seat.proofs.Windows.{letter_is_new, letter_of, seat_lost, seat_put}

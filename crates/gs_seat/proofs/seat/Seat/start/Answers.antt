@@ -4,7 +4,7 @@ use Rattle.gs_topo.specs.Graph.{Graph, neighbours_of}
 use Rattle.gs_run.specs.Net.{neighbours}
 use Rattle.gs_run.specs.Nets.{net_of}
 use Rattle.gs_calendar.specs.Course.{course_of}
-use Rattle.gs_seat.specs.inside.Ways.{unasked}
+use Rattle.gs_seat.specs.Ways.{unasked}
 use Rattle.gs_seat.proofs.Starting.{starts_in}
 use Rattle.gs_seat.proofs.seat.Seat.start.Goals as goal
 

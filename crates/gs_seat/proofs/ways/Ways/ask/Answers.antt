@@ -1,7 +1,7 @@
 use Rattle.std.proofs.Common.{◌≡◌, arith, slice_index_or, subst, sym, rules}
 use Rattle.gs_script.specs.declared.run.WayRun.{WayRun}
 use Rattle.gs_calendar.specs.Course.{course_of}
-use Rattle.gs_seat.specs.inside.Ways.{Knows}
+use Rattle.gs_seat.specs.Ways.{Knows}
 use Rattle.gs_seat.proofs.Known.{still_known}
 use Rattle.gs_seat.proofs.ways.Ways.ask.Goals as goal
 

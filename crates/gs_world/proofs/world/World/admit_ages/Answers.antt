@@ -3,7 +3,7 @@ use Rattle.gs_planfile.specs.declared.text.PlanText.{PlanText}
 use Rattle.gs_world.specs.inside.Late.{stale_in, IsNoneStaleBefore}
 use Rattle.gs_run.specs.Nets.{net_of}
 use Rattle.gs_world.specs.Placed.{Placed}
-use Rattle.gs_world.specs.Seen.{world_in}
+use Rattle.gs_world.specs.inside.Seen.{world_in}
 use Rattle.gs_world.proofs.Advancing.{ages_ahead}
 use Rattle.gs_world.proofs.Upkeep.{none_stale_yet}
 use Rattle.gs_world.proofs.world.World.admit_ages.Goals as goal

@@ -10,7 +10,7 @@ use Rattle.gs_world.specs.inside.Delays.{delay_of}
 use Rattle.gs_run.specs.Net.{link_of, neighbours, place_of}
 use Rattle.gs_run.specs.Nets.{net_of}
 use Rattle.gs_world.specs.Placed.{Placed}
-use Rattle.gs_world.specs.Seen.{world_in}
+use Rattle.gs_world.specs.inside.Seen.{world_in}
 use Rattle.gs_run.specs.Why.{why}
 use Rattle.gs_run.specs.World.{is_newer, member, sent_by}
 use Rattle.gs_world.specs.declared.delay.Delay.{Delay}

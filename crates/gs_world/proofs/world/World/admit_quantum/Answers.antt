@@ -5,7 +5,7 @@ use Rattle.std.proofs.lemmas.List.Quantifiers.{position-Some}
 use Rattle.gs_core.specs.declared.event.Event.TheVariants.{Quantum}
 use Rattle.gs_run.specs.Nets.{net_of}
 use Rattle.gs_world.specs.Placed.{Placed}
-use Rattle.gs_world.specs.Seen.{world_in}
+use Rattle.gs_world.specs.inside.Seen.{world_in}
 use Rattle.gs_run.specs.Why.{drifts, why}
 use Rattle.gs_run.specs.declared.refused.Refused.TheVariants.{Drift, End, Shape}
 use Rattle.gs_world.proofs.Advancing.{at_end, drift_read, drifting, else_stale, few_nodes, tick_due, wrong_count}

@@ -3,7 +3,7 @@ use Rattle.gs_planfile.specs.declared.text.PlanText.{PlanText}
 use Rattle.gs_world.specs.inside.Late.{IsNoneDueBefore, due_in}
 use Rattle.gs_run.specs.Nets.{net_of}
 use Rattle.gs_world.specs.Placed.{Placed}
-use Rattle.gs_world.specs.Seen.{world_in}
+use Rattle.gs_world.specs.inside.Seen.{world_in}
 use Rattle.gs_run.specs.Why.{at_node}
 use Rattle.gs_run.specs.declared.refused.Refused.TheVariants.{TickDue}
 use Rattle.gs_world.proofs.Advancing.{due_node, due_read, few_nodes, ticks_ahead}

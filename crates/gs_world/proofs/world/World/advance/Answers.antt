@@ -2,7 +2,7 @@ use Rattle.std.proofs.Common.{All, false, map, ◌≡◌, ◌<◌, ◌^◌, ◌�
 use Rattle.gs_core.specs.declared.event.Event.TheVariants.{Quantum}
 use Rattle.gs_run.specs.Nets.{net_of}
 use Rattle.gs_world.specs.Placed.{Placed}
-use Rattle.gs_world.specs.Seen.{world_in}
+use Rattle.gs_world.specs.inside.Seen.{world_in}
 use Rattle.gs_run.specs.World.{effect}
 use Rattle.gs_run.specs.Fast.{is_fast}
 use Rattle.gs_world.specs.inside.Members.{AreSlowClocks, IsReadable, advance_members, clock_at, sums}

@@ -4,7 +4,7 @@ use Rattle.gs_world.specs.inside.Late.{stale_in}
 use Rattle.gs_run.specs.Net.{neighbours}
 use Rattle.gs_run.specs.Nets.{net_of}
 use Rattle.gs_world.specs.Placed.{Placed}
-use Rattle.gs_world.specs.Seen.{world_in}
+use Rattle.gs_world.specs.inside.Seen.{world_in}
 use Rattle.gs_run.specs.declared.refused.Refused.{Refused}
 use Rattle.gs_run.specs.declared.refused.Refused.TheVariants.{Stale}
 use Rattle.gs_world.proofs.Advancing.{few_nodes, link_inside, no_place, none_stale, some_stale, stale_link, stale_node, stale_read}

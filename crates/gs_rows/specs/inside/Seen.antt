@@ -1,4 +1,4 @@
--- What the fields of a play's rows stand for: for their view alone.
+-- For private functions and proofs: how the fields of a play's rows are seen.
 use Rattle.std.specs.Prelude.{◌≡◌, ℕ, List, ◌∷◌, ◌++◌, length}
 use Rattle.gs_core.specs.declared.event.Event.{Event}
 use Rattle.gs_plan.specs.Plans.{text_of}

@@ -1,4 +1,4 @@
--- The pieces that a player owns its nodes in.
+-- For private functions and proofs: the pieces that a player owns its nodes in.
 use Rattle.std.specs.Prelude.{◌≡◌, ℕ, ◌+◌, ◌*◌, ◌<◌, ◌≤◌, min, nat_lt, if◌then◌else◌, List, None, length, slice_index_or}
 use Rattle.gs_plan.specs.Plans.{text_of}
 use Rattle.gs_plan.specs.declared.plan.Plan.{Plan}
@@ -6,7 +6,7 @@ use Rattle.gs_script.specs.Script.{Said}
 use Rattle.gs_run.specs.Net.{Net}
 use Rattle.gs_run.specs.Nets.{net_of}
 use Rattle.gs_calendar.specs.Course.{Course, course_of}
-use Rattle.gs_calendar.specs.inside.Feeds.{IsReadFor}
+use Rattle.gs_calendar.specs.Scripts.{IsReadFor}
 use Rattle.gs_calendar.specs.Stale.{breach_upto}
 use Rattle.gs_seat.specs.Held.{IsWindow}
 use Rattle.gs_piece.specs.Nodes.{AllHanded, none_handed}

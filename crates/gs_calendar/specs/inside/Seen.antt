@@ -1,11 +1,12 @@
--- What a feed is seen as.
+-- For private functions and proofs: how the fields of a feed are seen.
 use Rattle.std.specs.Prelude.{◌≡◌, suc, List}
 use Rattle.gs_core.specs.declared.event.Event.{Event}
 use Rattle.gs_plan.specs.Plans.{text_of}
 use Rattle.gs_run.specs.Nets.{net_of}
 use Rattle.gs_calendar.specs.Course.{course_of}
 use Rattle.gs_calendar.specs.inside.Coming.{AreAhead}
-use Rattle.gs_calendar.specs.inside.Feeds.{IsFeed, IsReadFor, left_of}
+use Rattle.gs_calendar.specs.inside.Feeds.{IsFeed, left_of}
+use Rattle.gs_calendar.specs.Scripts.{IsReadFor}
 use Rattle.gs_calendar.specs.declared.feed.Feed.TheInside.{Inside}
 
 -- the events that are left

@@ -1,4 +1,4 @@
--- How far clocks move apart.
+-- For private functions and proofs: how far clocks move apart.
 use Rattle.std.specs.Prelude.{ℕ, nat_eq, if◌then◌else◌}
 use Rattle.gs_units.specs.Rates.{drift_of, r_of}
 use Rattle.gs_units.specs.declared.rate.Rate.{Rate}

@@ -1,4 +1,4 @@
--- What is known of the rows of clocks so far.
+-- For private functions and proofs: what is known of the rows of clocks so far.
 use Rattle.std.specs.Prelude.{◌≡◌, ℕ, ◌*◌, ◌^◌, ◌≤◌, List, ◌∷◌, ◌++◌, [], None}
 use Rattle.gs_plan.specs.Plans.{graph_of, text_of}
 use Rattle.gs_plan.specs.declared.plan.Plan.{Plan}
@@ -10,9 +10,8 @@ use Rattle.gs_run.specs.RunRows.{fast_of, rows_of}
 use Rattle.gs_run.specs.World.{clocks_in}
 use Rattle.gs_calendar.specs.Course.{Course, course_of}
 use Rattle.gs_calendar.specs.Events.{events_upto}
-use Rattle.gs_calendar.specs.Scripts.{start_of}
+use Rattle.gs_calendar.specs.Scripts.{IsReadFor, start_of}
 use Rattle.gs_calendar.specs.Stale.{breach_upto}
-use Rattle.gs_calendar.specs.inside.Feeds.{IsReadFor}
 use Rattle.gs_seat.specs.Worlds.{world_of}
 use Rattle.gs_play.specs.declared.totals.Totals.{Totals}
 

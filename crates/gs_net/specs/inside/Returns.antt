@@ -1,4 +1,4 @@
--- What ports in memory keep.
+-- For private functions and proofs: what ports in memory keep.
 use Rattle.std.specs.Prelude.{List}
 use Rattle.gs_net.specs.declared.returns.Returns.{Returns}
 use Rattle.gs_net.specs.Lending.{Returned}

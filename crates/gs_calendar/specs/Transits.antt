@@ -1,4 +1,4 @@
--- What is in transit to a node. These facts are for private functions and proofs.
+-- What is in transit to a node.
 use Rattle.std.specs.Prelude.{◌≡◌, ℕ, suc, ◌<◌, ◌≤◌, ◌⊎◌, true, List, [], ◌∷◌, Some}
 use Rattle.gs_run.specs.Net.{Net, neighbours}
 use Rattle.gs_calendar.specs.Due.{Key}

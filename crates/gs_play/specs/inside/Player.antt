@@ -1,4 +1,4 @@
--- A play under way.
+-- For private functions and proofs: a play under way.
 use Rattle.std.specs.Prelude.{◌≡◌, ℕ, ◌+◌, ◌<◌, ◌≤◌, length, None}
 use Rattle.gs_plan.specs.Plans.{text_of}
 use Rattle.gs_plan.specs.declared.plan.Plan.{Plan}
@@ -7,11 +7,11 @@ use Rattle.gs_run.specs.Net.{neighbour, neighbours}
 use Rattle.gs_run.specs.Nets.{net_of}
 use Rattle.gs_calendar.specs.Calendar.{heard_at}
 use Rattle.gs_calendar.specs.Course.{course_of}
-use Rattle.gs_calendar.specs.inside.Feeds.{IsReadFor}
+use Rattle.gs_calendar.specs.Scripts.{IsReadFor}
 use Rattle.gs_calendar.specs.Stale.{breach_upto}
-use Rattle.gs_play.specs.Pieces.{ArePiecesIn}
-use Rattle.gs_play.specs.Totals.{AreTotals}
-use Rattle.gs_play.specs.Windows.{longest_window}
+use Rattle.gs_play.specs.inside.Pieces.{ArePiecesIn}
+use Rattle.gs_play.specs.inside.Totals.{AreTotals}
+use Rattle.gs_play.specs.inside.Windows.{longest_window}
 use Rattle.gs_play.specs.declared.player.Player.{Player}
 
 -- This player has played the first t quanta of a script, none of which is a breach.

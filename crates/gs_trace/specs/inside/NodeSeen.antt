@@ -1,4 +1,4 @@
--- What the fields of a node's scan stand for.
+-- For private functions and proofs: how the fields of a node's scan are seen.
 use Rattle.std.specs.Prelude.{◌≡◌, List, None}
 use Rattle.gs_core.specs.declared.event.NodeEvent.{NodeEvent}
 use Rattle.gs_trace.specs.Formats.{fault_from}

@@ -1,9 +1,9 @@
--- What a seat knows of the ways to its node. These facts are for private functions and proofs.
+-- What a seat knows of the ways to its node.
 use Rattle.std.specs.Prelude.{◌≡◌, ◌<◌, ◌≤◌, ℕ, false, List, Some, length, slice_index_or}
 use Rattle.gs_run.specs.Net.{Net, neighbours, place_of}
 use Rattle.gs_script.specs.declared.run.WayRun.{WayRun}
 use Rattle.gs_calendar.specs.Course.{Course}
-use Rattle.gs_calendar.specs.inside.Transits.{Has}
+use Rattle.gs_calendar.specs.Transits.{Has}
 
 -- of a way of which the script was not asked nothing is known
 abbrev pub unasked : WayRun

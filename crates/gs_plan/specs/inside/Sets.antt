@@ -1,4 +1,4 @@
--- Two plans of the same numbers are the same plan: each fact that a plan keeps has one proof at most.
+-- For the type of plans alone: two plans of the same numbers are the same, as each fact that a plan keeps has one proof at most.
 use Rattle.std.specs.Prelude.{◌≡◌, ℕ, List, refl}
 use Rattle.std.specs.Coded.{Coded, Coded-set, code_by, coded_list, coded_ℕ, coded×}
 use Rattle.gs_topo.specs.Graph.{Graph}

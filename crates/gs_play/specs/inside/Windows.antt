@@ -1,4 +1,4 @@
--- How long a window is.
+-- For private functions and proofs: how long a window is.
 use Rattle.std.specs.Prelude.{ℕ, List, [], ◌∷◌, min, max}
 use Rattle.gs_planfile.specs.declared.text.EdgeSpan.{EdgeSpan}
 use Rattle.gs_planfile.specs.declared.text.PlanText.{PlanText}

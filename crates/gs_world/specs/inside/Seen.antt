@@ -1,4 +1,4 @@
--- What the fields of a world stand for: for its view alone.
+-- For private functions and proofs: how the fields of a world are seen.
 use Rattle.std.specs.Prelude.{◌≡◌, ℕ, ◌<◌, length, map, slice_index_or}
 use Rattle.gs_run.specs.Fast.{fast_in}
 use Rattle.gs_world.specs.inside.Late.{AreDeadlines}

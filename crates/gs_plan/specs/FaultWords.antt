@@ -1,7 +1,7 @@
 -- The words for what is wrong with a plan.
 use Rattle.std.specs.Prelude.{ℕ, List, ◌++◌, codes, decimal}
-use Rattle.gs_units.specs.Words.{why_of as rate_why}
-use Rattle.gs_topo.specs.Words.{why_of as topo_why}
+use Rattle.gs_units.specs.FaultWords.{why_of as rate_why}
+use Rattle.gs_topo.specs.FaultWords.{why_of as topo_why}
 use Rattle.gs_plan.specs.declared.fault.PlanFault.{PlanFault}
 use Rattle.gs_plan.specs.declared.fault.PlanFault.TheVariants as fault
 

@@ -1,4 +1,4 @@
--- What the fields of a scan stand for.
+-- For private functions and proofs: how the fields of a scan are seen.
 use Rattle.std.specs.Prelude.{◌≡◌, None}
 use Rattle.gs_trace.specs.Formats.{fault_from}
 use Rattle.gs_trace.specs.Scans.{WorldLeft}

@@ -1,3 +1,0 @@
--- What the code's own types stand for: the contracts of the crates above and proofs speak of it, and no headline does.
-pub mod Reply
-pub mod Stops

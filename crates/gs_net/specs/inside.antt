@@ -1,0 +1,2 @@
+-- What private functions and proofs speak of: no public contract rests on it.
+pub mod Returns
