@@ -1,8 +1,7 @@
 -- The error of one edge: what was heard is off by the way, and since then by the drift.
 use Rattle.std.proofs.Common.{◌≡◌, ℕ, ◌+◌, ◌-◌, ◌*◌, ◌≤◌, arith}
 use Rattle.std.proofs.Math.Nat.{mul-le-mul_left, mul-le-mul_right, mul-add, add-mul}
-use Rattle.gs_units.specs.Delays.{delay_spread}
-use Rattle.gs_units.specs.Rates.{drift_of, top_of, r_of}
+use Rattle.gs_units.specs.Rates.{drift_of, top_of, r_of, delay_spread}
 use Rattle.gs_units.specs.declared.rate.Rate.{Rate}
 use Rattle.gs_estimate.specs.EdgeError.{BeaconIsClose, StartIsClose, OffsetStaysClose}
 

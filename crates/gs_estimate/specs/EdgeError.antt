@@ -1,7 +1,6 @@
 -- The error of one edge, as a law on numbers. Delays and ages are in quanta, clocks in clock units.
 use Rattle.std.specs.Prelude.{◌≡◌, ℕ, ◌+◌, ◌-◌, ◌*◌, ◌/◌, ◌≤◌}
-use Rattle.gs_units.specs.Delays.{delay_comp, delay_spread}
-use Rattle.gs_units.specs.Rates.{drift_of, top_of}
+use Rattle.gs_units.specs.Rates.{drift_of, top_of, delay_comp, delay_spread}
 use Rattle.gs_units.specs.declared.rate.Rate.{Rate}
 use Rattle.gs_estimate.specs.Entries.{estimate_of}
 use Rattle.gs_estimate.specs.declared.slots.Entry.{Entry}

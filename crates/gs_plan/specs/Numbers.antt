@@ -1,8 +1,7 @@
 -- The numbers of a plan's rate and of its edges.
 use Rattle.std.specs.Prelude.{ℕ, ◌+◌, ◌-◌, ◌*◌, ◌/◌, if◌then◌else◌, List, map, Option, Some, None, unwrap_or}
 use Rattle.std.specs.Int.{div_ceil}
-use Rattle.gs_units.specs.Rates.{boosted, crept}
-use Rattle.gs_units.specs.Delays.{delay_comp, delay_jump, delay_spread}
+use Rattle.gs_units.specs.Rates.{boosted, crept, delay_comp, delay_jump, delay_spread}
 use Rattle.gs_planfile.specs.declared.text.PlanText.{PlanText}
 use Rattle.gs_topo.specs.Graph.{Graph, adjacent}
 use Rattle.gs_plan.specs.Edges.{edge_given, edges_given}

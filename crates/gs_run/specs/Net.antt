@@ -1,8 +1,7 @@
 -- What the world knows of a plan.
 use Rattle.std.specs.Prelude.{ℕ, ◌+◌, ◌-◌, ◌*◌, ◌/◌, Bool, IsTrue, nat_eq, List, filter, map, position, Option, slice_index}
 use Rattle.std.specs.List.{range_with_len}
-use Rattle.gs_units.specs.Delays.{delay_comp, delay_jump, delay_spread}
-use Rattle.gs_units.specs.Rates.{drift_of, g_of, r_of, sigma_of, bound_at}
+use Rattle.gs_units.specs.Rates.{drift_of, g_of, r_of, sigma_of, bound_at, delay_comp, delay_jump, delay_spread}
 use Rattle.gs_units.specs.declared.params.Link.{Link}
 use Rattle.gs_units.specs.declared.params.NodeParams.{NodeParams}
 use Rattle.gs_units.specs.declared.rate.Rate.{Rate}

@@ -2,7 +2,6 @@ pub mod Accepted
 pub mod FirstFault
 pub mod Faults
 pub mod Rates
-pub mod Delays
 pub mod Offsets
 pub mod Growth
 pub mod Params

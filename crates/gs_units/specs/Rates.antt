@@ -1,4 +1,4 @@
--- The numbers of a rate, in clock units, and the bounds that they make.
+-- The numbers of a rate and of the delays of a link, in clock units, and the bounds that they make. Delays are in quanta.
 use Rattle.std.specs.Prelude.{◌≡◌, ℕ, zero, suc, ◌+◌, ◌-◌, ◌*◌, ◌/◌}
 use Rattle.std.specs.Int.{div_ceil}
 use Rattle.gs_units.specs.declared.rate.Rate.{Rate}
@@ -55,6 +55,18 @@ drift_of rate = top_of rate - rate.lo
 -- how many times r goes into q
 abbrev pub sigma_of : Rate → ℕ
 sigma_of rate = q_of rate / r_of rate
+
+-- j: how far the delays of a link spread
+abbrev pub delay_spread : ℕ → ℕ → ℕ → ℕ
+delay_spread lo delay_min delay_max = lo * (delay_max - delay_min)
+
+-- what a maximum is raised by for its way: every clock grows by it in the least delay
+abbrev pub delay_jump : ℕ → ℕ → ℕ
+delay_jump lo delay_min = lo * delay_min
+
+-- what a clock is raised by for its way: half of the spread more
+abbrev pub delay_comp : ℕ → ℕ → ℕ → ℕ
+delay_comp lo delay_min delay_max = delay_jump lo delay_min + delay_spread lo delay_min delay_max / 2
 
 -- G(s), where G(0) is `first`
 abbrev pub bound_at : ℕ → ℕ → ℕ → ℕ → ℕ
