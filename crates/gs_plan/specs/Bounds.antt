@@ -6,7 +6,7 @@ use Rattle.gs_planfile.specs.declared.text.PlanText.{PlanText}
 use Rattle.gs_plan.specs.declared.edge.EdgeGiven.{EdgeGiven}
 use Rattle.gs_plan.specs.Edges.{own_given, edges_given}
 use Rattle.gs_plan.specs.Levels.{best_of}
-use Rattle.gs_units.specs.Rates.{bound_at}
+use Rattle.gs_units.specs.Rates.{bound_at, lambda_at, skew_at}
 use Rattle.gs_plan.specs.Numbers.{g_in, iota_in, kappa_in, r_in, sigma_in, spread_in}
 
 -- the greatest of the plan's own value and those of all edges
@@ -25,11 +25,11 @@ greatest_delay_in t g = greatest_in (λ e. e.delay_max) t g
 
 -- how far a maximum may lag behind the greatest clock
 abbrev pub lambda_in : PlanText → Graph → ℕ
-lambda_in t g = diameter_of g * ((t.hi - g_in t) * t.age + greatest_spread_in t g)
+lambda_in t g = lambda_at (diameter_of g) t.hi (g_in t) t.age (greatest_spread_in t g)
 
 -- G(0): the bound of the difference of any two clocks
 abbrev pub global_in : PlanText → Graph → ℕ
-global_in t g = lambda_in t g + iota_in t + r_in t * t.tick
+global_in t g = skew_at (lambda_in t g) (iota_in t) (r_in t) t.tick
 
 -- G(s): the bound of level s
 abbrev pub level_in : PlanText → Graph → ℕ → ℕ

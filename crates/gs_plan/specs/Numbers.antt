@@ -1,7 +1,6 @@
 -- The numbers of a plan's rate and of its edges.
 use Rattle.std.specs.Prelude.{ℕ, ◌+◌, ◌-◌, ◌*◌, ◌/◌, if◌then◌else◌, List, map, Option, Some, None, unwrap_or}
-use Rattle.std.specs.Int.{div_ceil}
-use Rattle.gs_units.specs.Rates.{boosted, crept, delay_comp, delay_jump, delay_spread}
+use Rattle.gs_units.specs.Rates.{delay_comp, delay_jump, delay_spread, delta_at, drift_at, g_at, iota_at, q_at, r_at, sigma_at, top_at}
 use Rattle.gs_planfile.specs.declared.text.PlanText.{PlanText}
 use Rattle.gs_topo.specs.Graph.{Graph, adjacent}
 use Rattle.gs_plan.specs.Edges.{edge_given, edges_given}
@@ -10,31 +9,31 @@ use Rattle.gs_plan.specs.declared.edge.EdgeNumbers.{EdgeNumbers}
 
 -- r: how far two hardware clocks may drift apart in one quantum
 abbrev pub r_in : PlanText → ℕ
-r_in t = t.hi - t.lo
+r_in t = r_at t.lo t.hi
 
 -- q: the least boost of one quantum
 abbrev pub q_in : PlanText → ℕ
-q_in t = boosted t.mu t.lo
+q_in t = q_at t.lo t.mu
 
 -- g: the least creep of one quantum
 abbrev pub g_in : PlanText → ℕ
-g_in t = crept t.lo t.hi t.lo
+g_in t = g_at t.lo t.hi
 
 -- the greatest that one quantum adds to a logical clock
 abbrev pub top_in : PlanText → ℕ
-top_in t = t.hi + boosted t.mu t.hi + 1
+top_in t = top_at t.hi t.mu
 
 -- how often the drift of one quantum goes into the boost
 abbrev pub sigma_in : PlanText → ℕ
-sigma_in t = q_in t / r_in t
+sigma_in t = sigma_at t.lo t.hi t.mu
 
 -- how far two logical clocks may drift apart in one quantum
 abbrev pub drift_in : PlanText → ℕ
-drift_in t = top_in t - t.lo
+drift_in t = drift_at t.lo t.hi t.mu
 
 -- how far ahead the maximum has to be for a node to be fast by itself
 abbrev pub iota_in : PlanText → ℕ
-iota_in t = drift_in t * t.tick + 1
+iota_in t = iota_at (drift_in t) t.tick
 
 -- j: how far the delays of an edge spread, in clock units
 abbrev pub spread_in : PlanText → EdgeGiven → ℕ
@@ -50,7 +49,7 @@ comp_in t e = delay_comp t.lo e.delay_min e.delay_max
 
 -- how far an offset may be off when it is used
 abbrev pub delta_in : PlanText → EdgeGiven → ℕ
-delta_in t e = drift_in t * (t.age + t.tick) + div_ceil (spread_in t e) 2
+delta_in t e = delta_at (drift_in t) t.age t.tick (spread_in t e)
 
 -- the least kappa that an edge may have
 abbrev pub least_kappa_in : PlanText → EdgeGiven → ℕ

@@ -1,6 +1,5 @@
 -- The numbers of every plan, as the net that the laws of runs speak of, and what it tells a node.
 use Rattle.std.proofs.Common.{◌≡◌, ℕ, ◌+◌, ◌*◌, ◌/◌, ◌<◌, ◌≤◌, arith, refl, ap, subst, ◌∙◌, map, length, List, [], ◌∷◌, get_or}
-use Rattle.std.specs.Int.{div_ceil}
 use Rattle.gs_units.specs.Rates.{HasNumbers, r_of, q_of}
 use Rattle.gs_units.specs.declared.params.Link.{Link}
 use Rattle.gs_units.specs.declared.params.NodeParams.{NodeParams}
@@ -28,17 +27,13 @@ use Rattle.gs_run.specs.Told.{BoundsAreThePlans, NodesAreTold}
 
 -- ---- a net has the numbers of its plan
 
--- half of a number, rounded up
-half_up : (x : ℕ) → (x + 1) / 2 ≡ div_ceil x 2
-half_up x = omega arith
-
 spread_is : (t : PlanText) (g : Graph) (rate : Rate) (v w : ℕ) → HasNumbers t.lo t.hi t.mu rate
     → spread_of (net_in t g rate) v w ≡ spread_in t (edge_given t (v, w))
 spread_is t g rate v w numbers = rw numbers.lo refl
 
 delta_is : (t : PlanText) (g : Graph) (rate : Rate) (v w : ℕ) → HasNumbers t.lo t.hi t.mu rate
     → delta_of (net_in t g rate) v w ≡ delta_in t (edge_given t (v, w))
-delta_is t g rate v w numbers = rw (numbers.hi, numbers.mu, numbers.lo, half_up (spread_in t (edge_given t (v, w)))) refl
+delta_is t g rate v w numbers = rw (numbers.hi, numbers.mu, numbers.lo) refl
 
 iota_is : (t : PlanText) (g : Graph) (rate : Rate) → HasNumbers t.lo t.hi t.mu rate
     → iota_of (net_in t g rate) ≡ iota_in t

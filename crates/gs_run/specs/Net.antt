@@ -1,7 +1,7 @@
 -- What the world knows of a plan.
 use Rattle.std.specs.Prelude.{ℕ, ◌+◌, ◌-◌, ◌*◌, ◌/◌, Bool, IsTrue, nat_eq, List, filter, map, position, Option, slice_index}
 use Rattle.std.specs.List.{range_with_len}
-use Rattle.gs_units.specs.Rates.{drift_of, g_of, r_of, sigma_of, bound_at, delay_comp, delay_jump, delay_spread}
+use Rattle.gs_units.specs.Rates.{bound_at, delay_comp, delay_jump, delay_spread, delta_at, drift_of, g_of, iota_at, lambda_at, r_of, sigma_of, skew_at}
 use Rattle.gs_units.specs.declared.params.Link.{Link}
 use Rattle.gs_units.specs.declared.params.NodeParams.{NodeParams}
 use Rattle.gs_units.specs.declared.rate.Rate.{Rate}
@@ -42,19 +42,19 @@ comp_of net v w = delay_comp net.rate.lo (net.delay_min v w) (net.delay_max v w)
 
 -- how far an offset may be off at the end of a quantum that uses it
 abbrev pub delta_of : Net → ℕ → ℕ → ℕ
-delta_of net v w = drift_of net.rate * (net.age + net.tick) + (spread_of net v w + 1) / 2
+delta_of net v w = delta_at (drift_of net.rate) net.age net.tick (spread_of net v w)
 
 -- how far ahead the maximum has to be for a node to be fast by itself
 abbrev pub iota_of : Net → ℕ
-iota_of net = drift_of net.rate * net.tick + 1
+iota_of net = iota_at (drift_of net.rate) net.tick
 
 -- how far a maximum may lag behind the greatest clock
 abbrev pub lambda_of : Net → ℕ
-lambda_of net = net.diameter * ((net.rate.hi - g_of net.rate) * net.age + net.widest)
+lambda_of net = lambda_at net.diameter net.rate.hi (g_of net.rate) net.age net.widest
 
 -- G(0): the bound of the difference of any two clocks
 abbrev pub skew_of : Net → ℕ
-skew_of net = lambda_of net + iota_of net + r_of net.rate * net.tick
+skew_of net = skew_at (lambda_of net) (iota_of net) (r_of net.rate) net.tick
 
 -- G(s): the bound of level s
 abbrev pub level_of : Net → ℕ → ℕ

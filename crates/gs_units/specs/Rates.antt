@@ -13,6 +13,30 @@ boosted mu h = h * mu / 1000000
 abbrev pub crept : ℕ → ℕ → ℕ → ℕ
 crept lo hi h = h * lo / hi
 
+-- r: how far two hardware clocks may drift apart in one quantum
+abbrev pub r_at : ℕ → ℕ → ℕ
+r_at lo hi = hi - lo
+
+-- q: the least boost of one quantum
+abbrev pub q_at : ℕ → ℕ → ℕ
+q_at lo mu = boosted mu lo
+
+-- g: the least creep of one quantum
+abbrev pub g_at : ℕ → ℕ → ℕ
+g_at lo hi = crept lo hi lo
+
+-- the greatest that one quantum adds to a logical clock
+abbrev pub top_at : ℕ → ℕ → ℕ
+top_at hi mu = hi + boosted mu hi + 1
+
+-- how far two logical clocks may drift apart in one quantum
+abbrev pub drift_at : ℕ → ℕ → ℕ → ℕ
+drift_at lo hi mu = top_at hi mu - lo
+
+-- sigma: how many times r goes into q
+abbrev pub sigma_at : ℕ → ℕ → ℕ → ℕ
+sigma_at lo hi mu = q_at lo mu / r_at lo hi
+
 -- a rate is of these numbers
 pub record HasNumbers (low high boost : ℕ) (rate : Rate) : Type 0 where
   pub lo : rate.lo ≡ low
@@ -32,29 +56,24 @@ abbrev pub steer_of : Rate → Mode → ℕ → ℕ
 steer_of rate Slow h = h
 steer_of rate Fast h = h + boost_of rate h
 
--- r: how far two hardware clocks may drift apart in one quantum
+-- the same of a rate
 abbrev pub r_of : Rate → ℕ
-r_of rate = rate.hi - rate.lo
+r_of rate = r_at rate.lo rate.hi
 
--- q: the least boost of one quantum
 abbrev pub q_of : Rate → ℕ
-q_of rate = boost_of rate rate.lo
+q_of rate = q_at rate.lo rate.mu
 
--- g: the least creep of one quantum
 abbrev pub g_of : Rate → ℕ
-g_of rate = creep_of rate rate.lo
+g_of rate = g_at rate.lo rate.hi
 
--- the greatest that one quantum adds to a logical clock
 abbrev pub top_of : Rate → ℕ
-top_of rate = rate.hi + boost_of rate rate.hi + 1
+top_of rate = top_at rate.hi rate.mu
 
--- how far two logical clocks may drift apart in one quantum
 abbrev pub drift_of : Rate → ℕ
-drift_of rate = top_of rate - rate.lo
+drift_of rate = drift_at rate.lo rate.hi rate.mu
 
--- how many times r goes into q
 abbrev pub sigma_of : Rate → ℕ
-sigma_of rate = q_of rate / r_of rate
+sigma_of rate = sigma_at rate.lo rate.hi rate.mu
 
 -- j: how far the delays of a link spread
 abbrev pub delay_spread : ℕ → ℕ → ℕ → ℕ
@@ -67,6 +86,22 @@ delay_jump lo delay_min = lo * delay_min
 -- what a clock is raised by for its way: half of the spread more
 abbrev pub delay_comp : ℕ → ℕ → ℕ → ℕ
 delay_comp lo delay_min delay_max = delay_jump lo delay_min + delay_spread lo delay_min delay_max / 2
+
+-- iota: how far ahead the maximum has to be for a node to be fast by itself
+abbrev pub iota_at : ℕ → ℕ → ℕ
+iota_at drift tick = drift * tick + 1
+
+-- delta: how far an offset may be off at the end of a quantum that uses it
+abbrev pub delta_at : ℕ → ℕ → ℕ → ℕ → ℕ
+delta_at drift age tick spread = drift * (age + tick) + div_ceil spread 2
+
+-- lambda: how far a maximum may lag behind the greatest clock, where `widest` is the greatest spread
+abbrev pub lambda_at : ℕ → ℕ → ℕ → ℕ → ℕ → ℕ
+lambda_at diameter hi g age widest = diameter * ((hi - g) * age + widest)
+
+-- G(0): the bound of the difference of any two clocks
+abbrev pub skew_at : ℕ → ℕ → ℕ → ℕ → ℕ
+skew_at lambda iota r tick = lambda + iota + r * tick
 
 -- G(s), where G(0) is `first`
 abbrev pub bound_at : ℕ → ℕ → ℕ → ℕ → ℕ
